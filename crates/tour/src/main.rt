@@ -4,12 +4,16 @@ ghost use Rattle.store.specs.Numbers.{put-number};
 
 mod shown;
 
+use book::Book;
+use engine::Unopened;
+use schedule::Reply;
 use shown::Hex;
 use shown::HexDisplay;
 use shown::Metres;
 use shown::MetresDisplay;
 use shown::RuleTable;
 use shown::RuleTableDisplay;
+use std::alloc::Global;
 use std::io;
 use store::Bytes;
 use store::BytesStore;
@@ -23,6 +27,7 @@ use waiting::Elder;
 use waiting::ElderRule;
 use waiting::Never;
 use waiting::NeverRule;
+use waiting::WaitingRule;
 
 // The window of a receiver's cells in which the survey's heights lie.
 const START: usize = 1;
@@ -102,7 +107,149 @@ fn show_the_rules(rt: &impl Print) -> io::Result<()> {
     rt.print(RuleTable(&Classes))
 }
 
+// Begins a job, and says which.
+fn begin<M: Store<Cell = i32>, D: Store<Cell = i32>, W: WaitingRule>(
+    rt: &impl Print,
+    book: &mut Book<M, D, W>,
+    class: u32,
+) -> io::Result<()> {
+    match book.begin(class) {
+        Ok((ticket, group, place)) => println!(
+            rt,
+            "  begin: job {ticket}, place {place} in group {group}"
+        ),
+        Err(why) => println!(rt, "  begin: refused, {}", why.number()),
+    }
+}
+
+fn read<M: Store<Cell = i32>, D: Store<Cell = i32>, W: WaitingRule>(
+    rt: &impl Print,
+    book: &mut Book<M, D, W>,
+    ticket: u32,
+    cell: u32,
+) -> io::Result<()> {
+    print!(rt, "  job {ticket} reads cell {cell}: ")?;
+    match book.read(ticket, cell) {
+        Reply::Granted(height) => println!(rt, "{} m", Metres(height)),
+        other => tell(rt, other),
+    }
+}
+
+fn write<M: Store<Cell = i32>, D: Store<Cell = i32>, W: WaitingRule>(
+    rt: &impl Print,
+    book: &mut Book<M, D, W>,
+    ticket: u32,
+    cell: u32,
+    height: i32,
+) -> io::Result<()> {
+    print!(
+        rt,
+        "  job {ticket} writes {} m into cell {cell}: ",
+        Metres(height)
+    )?;
+    match book.write(ticket, cell, height) {
+        Reply::Granted(()) => println!(rt, "written"),
+        other => tell(rt, other),
+    }
+}
+
+// Says what came in place of a grant.
+fn tell<T: Drop>(rt: &impl Print, reply: Reply<T>) -> io::Result<()> {
+    match reply {
+        Reply::Granted(_) => println!(rt, "granted"),
+        Reply::Wait(blocker) => println!(rt, "wait for job {blocker}"),
+        Reply::Rejected(why) => println!(rt, "rejected, {} naming {}", why.number(), why.detail()),
+        Reply::Refused(why) => println!(rt, "refused, {}", why.number()),
+    }
+}
+
+fn end<M: Store<Cell = i32>, D: Store<Cell = i32>, W: WaitingRule>(
+    rt: &impl Print,
+    book: &mut Book<M, D, W>,
+    ticket: u32,
+) -> io::Result<()> {
+    match book.end(ticket) {
+        Ok((group, number)) => println!(
+            rt,
+            "  job {ticket} ends: number {number}, of group {group}"
+        ),
+        Err(why) => println!(rt, "  job {ticket} ends: refused, {}", why.number()),
+    }
+}
+
+fn show_main_row<M: Store<Cell = i32>, D: Store<Cell = i32>, W: WaitingRule>(
+    rt: &impl Print,
+    book: &Book<M, D, W>,
+) -> io::Result<()> {
+    print!(rt, "  main row:")?;
+    for cell in 0..book.len() {
+        if let Ok(height) = book.main_cell(cell) {
+            print!(rt, " {}", Metres(height))?;
+        }
+    }
+    println!(rt)
+}
+
+fn show_report<M: Store<Cell = i32>, D: Store<Cell = i32>, W: WaitingRule>(
+    rt: &impl Print,
+    book: &Book<M, D, W>,
+) -> io::Result<()> {
+    let report = book.report();
+    println!(
+        rt,
+        "  jobs: {} begun, {} ended, {} given up, {} rejected, {} open",
+        report.begun, report.ended, report.given_up, report.rejected, report.open
+    )
+}
+
+// A crew, job 2, corrects two heights while another job wants to read one of them.
+fn survey<M: Store<Cell = i32>, D: Store<Cell = i32>, W: WaitingRule>(
+    rt: &impl Print,
+    book: &mut Book<M, D, W>,
+) -> io::Result<()> {
+    show_main_row(rt, book)?;
+    begin(rt, book, 0)?;
+    begin(rt, book, 1)?;
+    write(rt, book, 2, 0, 1_234_600)?;
+    write(rt, book, 2, 1, 1_234_550)?;
+    read(rt, book, 2, 0)?;
+    read(rt, book, 1, 0)?;
+    end(rt, book, 1)?;
+    show_main_row(rt, book)?;
+    end(rt, book, 2)?;
+    read(rt, book, 1, 0)?;
+    end(rt, book, 1)?;
+    show_main_row(rt, book)?;
+    show_report(rt, book)
+}
+
+// Opens a book over the first cells of two rows of bytes, carries out the survey, and closes the book.
+fn carry_out_a_job(rt: &(impl Print + Alloc<A = Global>)) -> io::Result<()> {
+    println!(rt, "A book of 4 cells under the rule elder.")?;
+    let mut main_bytes = [0u8; 16];
+    let mut draft_bytes = [0u8; 16];
+    correct(&mut main_bytes, 0, 1_234_567);
+    correct(&mut main_bytes, 1, 1_234_512);
+    let main = Window::new(Bytes::new(&mut main_bytes), 0, 4);
+    let draft = Window::new(Bytes::new(&mut draft_bytes), 0, 4);
+    match Book::open(rt.alloc(), main, draft, Elder) {
+        Ok(mut book) => {
+            let done = survey(rt, &mut book);
+            let (_, _, _) = book.close();
+            done
+        }
+        Err(
+            Unopened {
+                main: _,
+                draft: _,
+                rule: _,
+            },
+        ) => println!(rt, "  no memory for the book"),
+    }
+}
+
 fn main(rt: LibcRuntime) -> io::Result<()> {
     work_on_a_receiver(&rt)?;
-    show_the_rules(&rt)
+    show_the_rules(&rt)?;
+    carry_out_a_job(&rt)
 }

@@ -1,0 +1,8 @@
+// The height book: what programs use. Each call promises its step, whole, and what its answer says of the book after it.
+pub mod calls;
+pub mod height_book;
+
+pub use height_book::Book;
+
+#[cfg(test)]
+mod tests;

@@ -1,0 +1,9 @@
+pub mod AllCells
+pub mod FewRows
+pub mod Finds
+pub mod Gathers
+pub mod Grants
+pub mod Groups
+pub mod OneCell
+pub mod Opens
+pub mod Taken

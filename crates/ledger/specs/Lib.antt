@@ -1,0 +1,3 @@
+pub mod Rejecting
+pub mod Soundness
+pub mod View

@@ -1,0 +1,3 @@
+pub mod Admitting
+pub mod Answering
+pub mod Sizes

@@ -1,0 +1,10 @@
+pub mod Answers
+pub mod Books
+pub mod Cells
+pub mod Counting
+pub mod Jobs
+pub mod Promises
+pub mod Reachable
+pub mod States
+pub mod Steps
+pub mod Verdicts
