@@ -2,15 +2,20 @@ ghost use lib.ListN.{length};
 ghost use mathlib.Core.Path.{_≡_};
 ghost use Prim.Native.Nat.{_+_};
 ghost use Rattle.engine.specs.Contents.{book-of};
-ghost use Rattle.schedule.specs.Books.{book-begin, book-end, book-give-up, book-read, book-write, fresh-book};
+ghost use Rattle.schedule.specs.Books.{book-begin, book-end, book-give-up, book-group-size, book-read, book-write, fresh-book};
 ghost use Rattle.schedule.specs.Promises.{Error-keeps, Outside-exactly, Refusal-keeps, Rejection-closes};
 ghost use Rattle.schedule.specs.Reachable.{Reachable};
 ghost use Rattle.schedule.specs.States.{report-of};
 ghost use Rattle.std.specs.Results.{Cases};
+ghost use Rattle.std.specs.Vec.{made};
 ghost use Rattle.store.specs.Rows.{cell-at};
+ghost use Rattle.theorem.specs.Calls.{Starts-serializable};
+ghost use Rattle.theorem.specs.Reports.{Reports-what-was-told};
+ghost use Rattle.theorem.specs.Theorem.{Keeps-serializable};
 use crate::height_book::Book;
 use engine::Engine;
 use engine::Unopened;
+use schedule::Event;
 use schedule::Refusal;
 use schedule::Reply;
 use schedule::Report;
@@ -29,6 +34,19 @@ impl<M: Store, D: Store<Cell = M::Cell>, W: WaitingRule> Book<M, D, W> {
         rule: W,
     ) -> Result<Book<M, D, W>, Unopened<M, D, W>>
         ensures fresh_or_handed_back { λ r. ⌜ Cases r (λ b. (book-of (M·Store .row) (D·Store .row) (b .engine) ≡ fresh-book (M·Store .row main) (D·Store .row draft)) × (b .engine .main ≡ main) × (b .engine .draft ≡ draft) × (b .engine .rule ≡ rule)) (λ u. u ≡ record { main = main; draft = draft; rule = rule }) ⌝ }
+        ensures starts_serializable { λ r. ⌜ made r (λ b. Starts-serializable (W·WaitingRule .may rule) (M·Store .row main) (book-of (M·Store .row) (D·Store .row) (b .engine))) ⌝ }
+    {
+        Book::open_promised(heap, main, draft, rule)
+    }
+
+    fn open_promised(
+        heap: Global,
+        main: M,
+        draft: D,
+        rule: W,
+    ) -> Result<Book<M, D, W>, Unopened<M, D, W>>
+        ensures fresh_or_handed_back { λ r. ⌜ Cases r (λ b. (book-of (M·Store .row) (D·Store .row) (b .engine) ≡ fresh-book (M·Store .row main) (D·Store .row draft)) × (b .engine .main ≡ main) × (b .engine .draft ≡ draft) × (b .engine .rule ≡ rule)) (λ u. u ≡ record { main = main; draft = draft; rule = rule }) ⌝ }
+        ensures starts_serializable { λ r. ⌜ made r (λ b. Starts-serializable (W·WaitingRule .may rule) (M·Store .row main) (book-of (M·Store .row) (D·Store .row) (b .engine))) ⌝ }
     {
         let engine = Engine::open(heap, main, draft, rule)?;
         Ok(Book { engine })
@@ -56,10 +74,19 @@ impl<M: Store, D: Store<Cell = M::Cell>, W: WaitingRule> Book<M, D, W> {
         self.engine.main_cell(cell)
     }
 
-    // The jobs so far: begun, ended, given up, rejected, open.
+    // The jobs so far: begun, ended, given up, rejected, open. Over every run these are the figures that the answers told.
     pub fn report(&self) -> Report
         ensures figures { λ r. ⌜ r ≡ report-of (book-of (M·Store .row) (D·Store .row) (now (self .entry) .engine) .state) ⌝ }
         ensures begun_is_the_sum { λ r. ⌜ r .begun ≡ r .ended + r .«given_up» + r .rejected + r .«open» ⌝ }
+        ensures figures_as_told { λ r. ⌜ Reports-what-was-told (W·WaitingRule .may (now (self .entry) .engine .rule)) (book-of (M·Store .row) (D·Store .row) (now (self .entry) .engine)) r ⌝ }
+    {
+        self.report_promised()
+    }
+
+    fn report_promised(&self) -> Report
+        ensures figures { λ r. ⌜ r ≡ report-of (book-of (M·Store .row) (D·Store .row) (now (self .entry) .engine) .state) ⌝ }
+        ensures begun_is_the_sum { λ r. ⌜ r .begun ≡ r .ended + r .«given_up» + r .rejected + r .«open» ⌝ }
+        ensures figures_as_told { λ r. ⌜ Reports-what-was-told (W·WaitingRule .may (now (self .entry) .engine .rule)) (book-of (M·Store .row) (D·Store .row) (now (self .entry) .engine)) r ⌝ }
     {
         self.engine.report()
     }
@@ -69,8 +96,9 @@ impl<M: Store, D: Store<Cell = M::Cell>, W: WaitingRule> Book<M, D, W> {
         ensures answer_and_book_after { λ r. ⌜ book-begin (book-of (M·Store .row) (D·Store .row) (now (self .entry) .engine)) class ≡ (r, book-of (M·Store .row) (D·Store .row) (now (self .exit) .engine)) ⌝ }
         ensures rule_kept { λ _. ⌜ now (self .exit) .engine .rule ≡ now (self .entry) .engine .rule ⌝ }
         ensures refusal_changes_nothing { λ r. ⌜ Error-keeps r (book-of (M·Store .row) (D·Store .row) (now (self .entry) .engine)) (book-of (M·Store .row) (D·Store .row) (now (self .exit) .engine)) ⌝ }
+        ensures serializable_without_deadlock { λ r. ⌜ Keeps-serializable (W·WaitingRule .may (now (self .entry) .engine .rule)) (Event.Begin class r) (book-of (M·Store .row) (D·Store .row) (now (self .entry) .engine)) (book-of (M·Store .row) (D·Store .row) (now (self .exit) .engine)) ⌝ }
     {
-        self.engine.begin(class)
+        self.begin_promised(class)
     }
 
     // A job reads a cell.
@@ -80,6 +108,7 @@ impl<M: Store, D: Store<Cell = M::Cell>, W: WaitingRule> Book<M, D, W> {
         ensures refusal_changes_nothing { λ r. ⌜ (Reachable (W·WaitingRule .may (now (self .entry) .engine .rule)) (book-of (M·Store .row) (D·Store .row) (now (self .entry) .engine)) → Refusal-keeps r (book-of (M·Store .row) (D·Store .row) (now (self .entry) .engine)) (book-of (M·Store .row) (D·Store .row) (now (self .exit) .engine))) ⌝ }
         ensures rejection_closes_that_job_alone { λ r. ⌜ Rejection-closes ticket r (book-of (M·Store .row) (D·Store .row) (now (self .entry) .engine)) (book-of (M·Store .row) (D·Store .row) (now (self .exit) .engine)) ⌝ }
         ensures no_such_cell_exactly_outside { λ r. ⌜ Outside-exactly (W·WaitingRule .may (now (self .entry) .engine .rule)) (book-of (M·Store .row) (D·Store .row) (now (self .entry) .engine)) ticket cell r ⌝ }
+        ensures serializable_without_deadlock { λ r. ⌜ Keeps-serializable (W·WaitingRule .may (now (self .entry) .engine .rule)) (Event.Read ticket cell r) (book-of (M·Store .row) (D·Store .row) (now (self .entry) .engine)) (book-of (M·Store .row) (D·Store .row) (now (self .exit) .engine)) ⌝ }
     {
         self.read_promised(ticket, cell)
     }
@@ -91,6 +120,7 @@ impl<M: Store, D: Store<Cell = M::Cell>, W: WaitingRule> Book<M, D, W> {
         ensures refusal_changes_nothing { λ r. ⌜ Refusal-keeps r (book-of (M·Store .row) (D·Store .row) (now (self .entry) .engine)) (book-of (M·Store .row) (D·Store .row) (now (self .exit) .engine)) ⌝ }
         ensures rejection_closes_that_job_alone { λ r. ⌜ Rejection-closes ticket r (book-of (M·Store .row) (D·Store .row) (now (self .entry) .engine)) (book-of (M·Store .row) (D·Store .row) (now (self .exit) .engine)) ⌝ }
         ensures no_such_cell_exactly_outside { λ r. ⌜ Outside-exactly (W·WaitingRule .may (now (self .entry) .engine .rule)) (book-of (M·Store .row) (D·Store .row) (now (self .entry) .engine)) ticket cell r ⌝ }
+        ensures serializable_without_deadlock { λ r. ⌜ Keeps-serializable (W·WaitingRule .may (now (self .entry) .engine .rule)) (Event.Write ticket cell new r) (book-of (M·Store .row) (D·Store .row) (now (self .entry) .engine)) (book-of (M·Store .row) (D·Store .row) (now (self .exit) .engine)) ⌝ }
     {
         self.write_promised(ticket, cell, new)
     }
@@ -100,8 +130,19 @@ impl<M: Store, D: Store<Cell = M::Cell>, W: WaitingRule> Book<M, D, W> {
         ensures answer_and_book_after { λ r. ⌜ book-end (book-of (M·Store .row) (D·Store .row) (now (self .entry) .engine)) ticket ≡ (r, book-of (M·Store .row) (D·Store .row) (now (self .exit) .engine)) ⌝ }
         ensures rule_kept { λ _. ⌜ now (self .exit) .engine .rule ≡ now (self .entry) .engine .rule ⌝ }
         ensures refusal_changes_nothing { λ r. ⌜ Error-keeps r (book-of (M·Store .row) (D·Store .row) (now (self .entry) .engine)) (book-of (M·Store .row) (D·Store .row) (now (self .exit) .engine)) ⌝ }
+        ensures serializable_without_deadlock { λ r. ⌜ Keeps-serializable (W·WaitingRule .may (now (self .entry) .engine .rule)) (Event.End ticket r) (book-of (M·Store .row) (D·Store .row) (now (self .entry) .engine)) (book-of (M·Store .row) (D·Store .row) (now (self .exit) .engine)) ⌝ }
     {
-        self.engine.end(ticket)
+        self.end_promised(ticket)
+    }
+
+    // A group takes this many jobs, from the next begin on; no job changes its group.
+    pub fn set_group_size(&mut self, size: u32) -> Result<u32, Refusal>
+        ensures answer_and_book_after { λ r. ⌜ book-group-size (book-of (M·Store .row) (D·Store .row) (now (self .entry) .engine)) size ≡ (r, book-of (M·Store .row) (D·Store .row) (now (self .exit) .engine)) ⌝ }
+        ensures rule_kept { λ _. ⌜ now (self .exit) .engine .rule ≡ now (self .entry) .engine .rule ⌝ }
+        ensures refusal_changes_nothing { λ r. ⌜ Error-keeps r (book-of (M·Store .row) (D·Store .row) (now (self .entry) .engine)) (book-of (M·Store .row) (D·Store .row) (now (self .exit) .engine)) ⌝ }
+        ensures serializable_without_deadlock { λ r. ⌜ Keeps-serializable (W·WaitingRule .may (now (self .entry) .engine .rule)) (Event.GroupSize size r) (book-of (M·Store .row) (D·Store .row) (now (self .entry) .engine)) (book-of (M·Store .row) (D·Store .row) (now (self .exit) .engine)) ⌝ }
+    {
+        self.set_group_size_promised(size)
     }
 
     // A job gives up, also while it waits; no cell changes.
@@ -109,8 +150,18 @@ impl<M: Store, D: Store<Cell = M::Cell>, W: WaitingRule> Book<M, D, W> {
         ensures answer_and_book_after { λ r. ⌜ book-give-up (book-of (M·Store .row) (D·Store .row) (now (self .entry) .engine)) ticket ≡ (r, book-of (M·Store .row) (D·Store .row) (now (self .exit) .engine)) ⌝ }
         ensures rule_kept { λ _. ⌜ now (self .exit) .engine .rule ≡ now (self .entry) .engine .rule ⌝ }
         ensures refusal_changes_nothing { λ r. ⌜ Error-keeps r (book-of (M·Store .row) (D·Store .row) (now (self .entry) .engine)) (book-of (M·Store .row) (D·Store .row) (now (self .exit) .engine)) ⌝ }
+        ensures serializable_without_deadlock { λ r. ⌜ Keeps-serializable (W·WaitingRule .may (now (self .entry) .engine .rule)) (Event.GiveUp ticket r) (book-of (M·Store .row) (D·Store .row) (now (self .entry) .engine)) (book-of (M·Store .row) (D·Store .row) (now (self .exit) .engine)) ⌝ }
     {
-        self.engine.give_up(ticket)
+        self.give_up_promised(ticket)
+    }
+
+    fn begin_promised(&mut self, class: u32) -> Result<(u32, u32, u32), Refusal>
+        ensures answer_and_book_after { λ r. ⌜ book-begin (book-of (M·Store .row) (D·Store .row) (now (self .entry) .engine)) class ≡ (r, book-of (M·Store .row) (D·Store .row) (now (self .exit) .engine)) ⌝ }
+        ensures rule_kept { λ _. ⌜ now (self .exit) .engine .rule ≡ now (self .entry) .engine .rule ⌝ }
+        ensures refusal_changes_nothing { λ r. ⌜ Error-keeps r (book-of (M·Store .row) (D·Store .row) (now (self .entry) .engine)) (book-of (M·Store .row) (D·Store .row) (now (self .exit) .engine)) ⌝ }
+        ensures serializable_without_deadlock { λ r. ⌜ Keeps-serializable (W·WaitingRule .may (now (self .entry) .engine .rule)) (Event.Begin class r) (book-of (M·Store .row) (D·Store .row) (now (self .entry) .engine)) (book-of (M·Store .row) (D·Store .row) (now (self .exit) .engine)) ⌝ }
+    {
+        self.engine.begin(class)
     }
 
     fn read_promised(&mut self, ticket: u32, cell: u32) -> Reply<M::Cell>
@@ -119,6 +170,7 @@ impl<M: Store, D: Store<Cell = M::Cell>, W: WaitingRule> Book<M, D, W> {
         ensures refusal_changes_nothing { λ r. ⌜ (Reachable (W·WaitingRule .may (now (self .entry) .engine .rule)) (book-of (M·Store .row) (D·Store .row) (now (self .entry) .engine)) → Refusal-keeps r (book-of (M·Store .row) (D·Store .row) (now (self .entry) .engine)) (book-of (M·Store .row) (D·Store .row) (now (self .exit) .engine))) ⌝ }
         ensures rejection_closes_that_job_alone { λ r. ⌜ Rejection-closes ticket r (book-of (M·Store .row) (D·Store .row) (now (self .entry) .engine)) (book-of (M·Store .row) (D·Store .row) (now (self .exit) .engine)) ⌝ }
         ensures no_such_cell_exactly_outside { λ r. ⌜ Outside-exactly (W·WaitingRule .may (now (self .entry) .engine .rule)) (book-of (M·Store .row) (D·Store .row) (now (self .entry) .engine)) ticket cell r ⌝ }
+        ensures serializable_without_deadlock { λ r. ⌜ Keeps-serializable (W·WaitingRule .may (now (self .entry) .engine .rule)) (Event.Read ticket cell r) (book-of (M·Store .row) (D·Store .row) (now (self .entry) .engine)) (book-of (M·Store .row) (D·Store .row) (now (self .exit) .engine)) ⌝ }
     {
         self.engine.read(ticket, cell)
     }
@@ -129,7 +181,35 @@ impl<M: Store, D: Store<Cell = M::Cell>, W: WaitingRule> Book<M, D, W> {
         ensures refusal_changes_nothing { λ r. ⌜ Refusal-keeps r (book-of (M·Store .row) (D·Store .row) (now (self .entry) .engine)) (book-of (M·Store .row) (D·Store .row) (now (self .exit) .engine)) ⌝ }
         ensures rejection_closes_that_job_alone { λ r. ⌜ Rejection-closes ticket r (book-of (M·Store .row) (D·Store .row) (now (self .entry) .engine)) (book-of (M·Store .row) (D·Store .row) (now (self .exit) .engine)) ⌝ }
         ensures no_such_cell_exactly_outside { λ r. ⌜ Outside-exactly (W·WaitingRule .may (now (self .entry) .engine .rule)) (book-of (M·Store .row) (D·Store .row) (now (self .entry) .engine)) ticket cell r ⌝ }
+        ensures serializable_without_deadlock { λ r. ⌜ Keeps-serializable (W·WaitingRule .may (now (self .entry) .engine .rule)) (Event.Write ticket cell new r) (book-of (M·Store .row) (D·Store .row) (now (self .entry) .engine)) (book-of (M·Store .row) (D·Store .row) (now (self .exit) .engine)) ⌝ }
     {
         self.engine.write(ticket, cell, new)
+    }
+
+    fn end_promised(&mut self, ticket: u32) -> Result<(u32, u32), Refusal>
+        ensures answer_and_book_after { λ r. ⌜ book-end (book-of (M·Store .row) (D·Store .row) (now (self .entry) .engine)) ticket ≡ (r, book-of (M·Store .row) (D·Store .row) (now (self .exit) .engine)) ⌝ }
+        ensures rule_kept { λ _. ⌜ now (self .exit) .engine .rule ≡ now (self .entry) .engine .rule ⌝ }
+        ensures refusal_changes_nothing { λ r. ⌜ Error-keeps r (book-of (M·Store .row) (D·Store .row) (now (self .entry) .engine)) (book-of (M·Store .row) (D·Store .row) (now (self .exit) .engine)) ⌝ }
+        ensures serializable_without_deadlock { λ r. ⌜ Keeps-serializable (W·WaitingRule .may (now (self .entry) .engine .rule)) (Event.End ticket r) (book-of (M·Store .row) (D·Store .row) (now (self .entry) .engine)) (book-of (M·Store .row) (D·Store .row) (now (self .exit) .engine)) ⌝ }
+    {
+        self.engine.end(ticket)
+    }
+
+    fn set_group_size_promised(&mut self, size: u32) -> Result<u32, Refusal>
+        ensures answer_and_book_after { λ r. ⌜ book-group-size (book-of (M·Store .row) (D·Store .row) (now (self .entry) .engine)) size ≡ (r, book-of (M·Store .row) (D·Store .row) (now (self .exit) .engine)) ⌝ }
+        ensures rule_kept { λ _. ⌜ now (self .exit) .engine .rule ≡ now (self .entry) .engine .rule ⌝ }
+        ensures refusal_changes_nothing { λ r. ⌜ Error-keeps r (book-of (M·Store .row) (D·Store .row) (now (self .entry) .engine)) (book-of (M·Store .row) (D·Store .row) (now (self .exit) .engine)) ⌝ }
+        ensures serializable_without_deadlock { λ r. ⌜ Keeps-serializable (W·WaitingRule .may (now (self .entry) .engine .rule)) (Event.GroupSize size r) (book-of (M·Store .row) (D·Store .row) (now (self .entry) .engine)) (book-of (M·Store .row) (D·Store .row) (now (self .exit) .engine)) ⌝ }
+    {
+        self.engine.set_group_size(size)
+    }
+
+    fn give_up_promised(&mut self, ticket: u32) -> Result<(), Refusal>
+        ensures answer_and_book_after { λ r. ⌜ book-give-up (book-of (M·Store .row) (D·Store .row) (now (self .entry) .engine)) ticket ≡ (r, book-of (M·Store .row) (D·Store .row) (now (self .exit) .engine)) ⌝ }
+        ensures rule_kept { λ _. ⌜ now (self .exit) .engine .rule ≡ now (self .entry) .engine .rule ⌝ }
+        ensures refusal_changes_nothing { λ r. ⌜ Error-keeps r (book-of (M·Store .row) (D·Store .row) (now (self .entry) .engine)) (book-of (M·Store .row) (D·Store .row) (now (self .exit) .engine)) ⌝ }
+        ensures serializable_without_deadlock { λ r. ⌜ Keeps-serializable (W·WaitingRule .may (now (self .entry) .engine .rule)) (Event.GiveUp ticket r) (book-of (M·Store .row) (D·Store .row) (now (self .entry) .engine)) (book-of (M·Store .row) (D·Store .row) (now (self .exit) .engine)) ⌝ }
+    {
+        self.engine.give_up(ticket)
     }
 }

@@ -3,7 +3,7 @@ ghost use mathlib.Core.Path.{_≡_};
 ghost use Prim.Native.Nat.{_+_};
 ghost use Rattle.engine.specs.Contents.{book-of};
 ghost use Rattle.ledger.specs.View.{view};
-ghost use Rattle.schedule.specs.Books.{book-begin, book-end, book-give-up, book-read, book-write, carried, granted-cell};
+ghost use Rattle.schedule.specs.Books.{book-begin, book-end, book-give-up, book-group-size, book-read, book-write, carried, granted-cell};
 ghost use Rattle.schedule.specs.States.{report-of};
 ghost use Rattle.std.specs.Results.{okPart};
 ghost use Rattle.store.specs.Rows.{cell-at};
@@ -91,6 +91,13 @@ impl<M: Store, D: Store<Cell = M::Cell>, W: WaitingRule> Engine<M, D, W> {
         ensures rule_kept { λ _. ⌜ now (self .exit) .rule ≡ now (self .entry) .rule ⌝ }
     {
         self.ledger.give_up(ticket)
+    }
+
+    pub fn set_group_size(&mut self, size: u32) -> Result<u32, Refusal>
+        ensures answer_and_book_after { λ r. ⌜ book-group-size (book-of (M·Store .row) (D·Store .row) (now (self .entry))) size ≡ (r, book-of (M·Store .row) (D·Store .row) (now (self .exit))) ⌝ }
+        ensures rule_kept { λ _. ⌜ now (self .exit) .rule ≡ now (self .entry) .rule ⌝ }
+    {
+        self.ledger.set_group_size(size)
     }
 
     pub fn report(&self) -> Report

@@ -2,6 +2,7 @@
 pub mod calls;
 pub mod engine;
 pub mod opening;
+pub mod submitting;
 
 pub use engine::Engine;
 pub use opening::Unopened;

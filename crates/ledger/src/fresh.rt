@@ -1,19 +1,23 @@
 ghost use lib.ListN.{length};
+ghost use mathlib.Core.List.{[]};
 ghost use mathlib.Core.Path.{_≡_};
 ghost use Rattle.ledger.specs.View.{view};
 ghost use Rattle.schedule.specs.Cells.{is-writer, record-of};
+ghost use Rattle.schedule.specs.Counting.{fresh-counters};
 ghost use Rattle.schedule.specs.States.{fresh-state};
 ghost use Rattle.std.specs.Vec.{made};
 use crate::ledger::Ledger;
+use cells::CellTable;
+use roster::JobRows;
 use schedule::Counters;
 use std::alloc::AllocError;
 use std::alloc::Global;
-use tables::CellTable;
-use tables::JobRows;
 
 impl Ledger {
     // A ledger with no rows and no cells, which takes no memory: it stands in for one whose parts are taken out.
-    pub(crate) fn none(heap: Global) -> Ledger {
+    pub(crate) fn none(heap: Global) -> Ledger
+        ensures nothing_in_it { λ r. ⌜ view r ≡ record { jobs = []; cells = []; counters = fresh-counters } ⌝ }
+    {
         Ledger {
             jobs: JobRows::none(heap),
             cells: CellTable::none(heap),

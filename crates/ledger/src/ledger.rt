@@ -2,9 +2,9 @@ ghost use lib.ListN.{length};
 ghost use Prim.Native.Nat.{_≤_};
 ghost use Rattle.ledger.specs.Soundness.{Cells-sound, Counters-sound};
 ghost use Rattle.std.specs.Of.Vec.{vec-items};
+use cells::CellTable;
+use roster::JobRows;
 use schedule::Counters;
-use tables::CellTable;
-use tables::JobRows;
 
 // The jobs, the records of the cells and the counters, which agree with one another.
 #[derive(Drop)]

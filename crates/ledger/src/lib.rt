@@ -4,13 +4,12 @@
 // the caller does the reading and the writing.
 mod admission;
 pub mod beginning;
-mod blockers;
 pub mod closing;
 pub mod counts;
 pub mod fresh;
+pub mod grouping;
 pub mod ledger;
 pub mod reading;
-mod verdicts;
 pub mod writing;
 
 pub use ledger::Ledger;

@@ -10,13 +10,13 @@ ghost use Rattle.schedule.specs.Steps.{read-by, read-step};
 ghost use Rattle.schedule.specs.Verdicts.{read-verdict};
 ghost use Rattle.std.specs.declared.option.Option.the-variants.{Some};
 use crate::ledger::Ledger;
-use crate::verdicts::read_verdict;
 use schedule::Job;
 use schedule::Kind;
 use schedule::Reply;
 use schedule::Source;
 use schedule::Verdict;
 use schedule::Wait;
+use verdicts::read_verdict;
 use waiting::WaitingRule;
 
 impl Ledger {

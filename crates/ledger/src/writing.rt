@@ -10,12 +10,12 @@ ghost use Rattle.schedule.specs.Steps.{write-by, write-step};
 ghost use Rattle.schedule.specs.Verdicts.{write-verdict};
 ghost use Rattle.std.specs.declared.option.Option.the-variants.{Some};
 use crate::ledger::Ledger;
-use crate::verdicts::write_verdict;
 use schedule::Job;
 use schedule::Kind;
 use schedule::Reply;
 use schedule::Verdict;
 use schedule::Wait;
+use verdicts::write_verdict;
 use waiting::WaitingRule;
 
 impl Ledger {

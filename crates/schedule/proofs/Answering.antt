@@ -8,7 +8,7 @@ use native.Mathlib.Omega.{arith}
 use Prim.Native.Nat.{ℕ, suc, zero, _<_, _≤_}
 use Rattle.schedule.proofs.Admitting.{Admitted, admitted-ok, admitted-outside, admitted-outside-only}
 use Rattle.schedule.proofs.Sizes.{reachable-sized}
-use Rattle.schedule.specs.Books.{Book, book, book-begin, book-end, book-give-up, book-read, book-write, granted-cell, kept, read-as, size-over, with-state, write-as}
+use Rattle.schedule.specs.Books.{Book, book, book-begin, book-end, book-give-up, book-group-size, book-read, book-write, granted-cell, kept, read-as, size-over, with-state, write-as}
 use Rattle.schedule.specs.Cells.{record-of, released}
 use Rattle.schedule.specs.declared.answer.Refusal.{Refusal}
 use Rattle.schedule.specs.declared.answer.Refusal.the-variants as refusal
@@ -26,8 +26,8 @@ use Rattle.schedule.specs.declared.verdict.Verdict.the-variants as verdict
 use Rattle.schedule.specs.Jobs.{closed-rows, find, holds, job-in, vacant, wait-lifted}
 use Rattle.schedule.specs.Promises.{Closed-alone, Error-keeps, Outside-exactly, Refusal-keeps, Rejection-closes, identity, marks-of, row-of}
 use Rattle.schedule.specs.Reachable.{Reachable, Sized}
-use Rattle.schedule.specs.States.{State, closed}
-use Rattle.schedule.specs.Steps.{Begun, Ended, admitted, begin-in, begin-with, end-on, ending, give-up-in, read-by, read-on, write-by, write-on}
+use Rattle.schedule.specs.States.{State, closed, resizing}
+use Rattle.schedule.specs.Steps.{Begun, Ended, admitted, begin-in, begin-with, end-on, ending, give-up-in, group-size-step, read-by, read-on, write-by, write-on}
 use Rattle.schedule.specs.Verdicts.{May, read-verdict, write-verdict}
 use Rattle.std.specs.declared.option.Option.{Option}
 use Rattle.std.specs.declared.option.Option.the-variants.{None, Some}
@@ -272,3 +272,20 @@ module _ {C : Type 0} (b after : Book C) where
   pub give-up-refusal-keeps : (ticket : ℕ) (r : Result (Unit {0}) Refusal) → book-give-up b ticket ≡ (r, after) → Error-keeps r b after
   give-up-refusal-keeps ticket r e =
       subst (λ (p : Result (Unit {0}) Refusal × Book C). Error-keeps (p .0) b (p .1)) e (give-up-kept ticket (find (holds ticket) (b .state .jobs)))
+
+  group-size-kept : (size : ℕ) → Error-keeps (with-state b (group-size-step (b .state) size) .0) b (with-state b (group-size-step (b .state) size) .1)
+  group-size-kept size = by-zero (leb size 0)
+    where
+      Kept : Result ℕ Refusal × State → Type 0
+      Kept p = Error-keeps (with-state b p .0) b (with-state b p .1)
+
+      by-million : (n : Bool) → Kept (cond n (Err refusal.NoSuchGroupSize, b .state) (Ok size, resizing (b .state) size))
+      by-million true = refl
+      by-million false = tt
+
+      by-zero : (n : Bool) → Kept (cond n (Err refusal.NoSuchGroupSize, b .state) (cond (leb 1000001 size) (Err refusal.NoSuchGroupSize, b .state) (Ok size, resizing (b .state) size)))
+      by-zero true = refl
+      by-zero false = by-million (leb 1000001 size)
+
+  pub group-size-refusal-keeps : (size : ℕ) (r : Result ℕ Refusal) → book-group-size b size ≡ (r, after) → Error-keeps r b after
+  group-size-refusal-keeps size r e = subst (λ (p : Result ℕ Refusal × Book C). Error-keeps (p .0) b (p .1)) e (group-size-kept size)

@@ -22,8 +22,8 @@ use Rattle.schedule.specs.declared.verdict.Verdict.{Verdict}
 use Rattle.schedule.specs.declared.verdict.Verdict.the-variants as verdict
 use Rattle.schedule.specs.Jobs.{find, holds, vacant}
 use Rattle.schedule.specs.Reachable.{Reachable, Sized, after, later, opened}
-use Rattle.schedule.specs.States.{State}
-use Rattle.schedule.specs.Steps.{admitted, begin-in, begin-step, begin-with, end-on, end-step, ending, give-up-in, give-up-step, read-by, read-on, read-step, write-by, write-on, write-step}
+use Rattle.schedule.specs.States.{State, resizing}
+use Rattle.schedule.specs.Steps.{admitted, begin-in, begin-step, begin-with, end-on, end-step, ending, give-up-in, give-up-step, group-size-step, read-by, read-on, read-step, write-by, write-on, write-step}
 use Rattle.schedule.specs.Verdicts.{May, read-verdict, write-verdict}
 use Rattle.std.proofs.shelf.Lists.{length-map}
 use Rattle.std.specs.declared.option.Option.{Option}
@@ -83,6 +83,17 @@ module _ (s : State) where
   give-up-records ticket None = refl
   give-up-records ticket (Some row) = released-records row
 
+  group-size-records : (size : ℕ) → Same-records s (group-size-step s size .1)
+  group-size-records size = by-zero (leb size 0)
+    where
+      by-million : (b : Bool) → Same-records s (cond {A = Result ℕ Refusal × State} b (Err refusal.NoSuchGroupSize, s) (Ok size, resizing s size) .1)
+      by-million true = refl
+      by-million false = refl
+
+      by-zero : (b : Bool) → Same-records s (cond {A = Result ℕ Refusal × State} b (Err refusal.NoSuchGroupSize, s) (cond (leb 1000001 size) (Err refusal.NoSuchGroupSize, s) (Ok size, resizing s size)) .1)
+      by-zero true = refl
+      by-zero false = by-million (leb 1000001 size)
+
 -- ---- the cells ----
 
 drafted-length : {C : Type 0} (draft : List C) (cell : ℕ) (c : C) (r : Reply (Unit {0})) → length (drafted draft cell c r) ≡ length draft
@@ -120,6 +131,7 @@ sized-after may b (request.End ticket) h =
     ∙ h
     ∙ same-size (b .main) _ (b .draft) (b .draft) (kept-length b (ending (b .state .jobs) ticket)) refl
 sized-after may b (request.GiveUp ticket) h = give-up-records (b .state) ticket (find (holds ticket) (b .state .jobs)) ∙ h
+sized-after may b (request.GroupSize size) h = group-size-records (b .state) size ∙ h
 
 pub reachable-sized : {C : Type 0} (may : May) (b : Book C) → Reachable may b → Sized b
 reachable-sized may b (opened main draft) = length-replicate (size-over main draft) fresh-record

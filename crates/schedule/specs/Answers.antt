@@ -13,6 +13,7 @@ refusal-number refusal.BookFull = 3
 refusal-number refusal.NoOpenJob = 4
 refusal-number refusal.NoSuchCell = 5
 refusal-number refusal.JobWaits = 6
+refusal-number refusal.NoSuchGroupSize = 9
 
 -- rejections close the job
 abbrev pub rejection-number : Rejection → ℕ

@@ -1,4 +1,4 @@
--- A book: the rows of its two stores beside the scheduler's state. And the five requests on a book.
+-- A book: the rows of its two stores beside the scheduler's state. And the six requests on a book.
 use lib.ListN.{length, set}
 use mathlib.Core.Bool.{cond}
 use mathlib.Core.List.{List, [], _∷_}
@@ -13,7 +13,7 @@ use Rattle.schedule.specs.declared.job.Job.{Job}
 use Rattle.schedule.specs.declared.verdict.Source.{Source}
 use Rattle.schedule.specs.declared.verdict.Source.the-variants as source
 use Rattle.schedule.specs.States.{State, fresh-state}
-use Rattle.schedule.specs.Steps.{Begun, Ended, begin-step, end-step, ending, give-up-step, read-step, write-step}
+use Rattle.schedule.specs.Steps.{Begun, Ended, begin-step, end-step, ending, give-up-step, group-size-step, read-step, write-step}
 use Rattle.schedule.specs.Verdicts.{May}
 use Rattle.std.specs.declared.option.Option.{Option}
 use Rattle.std.specs.declared.option.Option.the-variants.{None, Some}
@@ -37,7 +37,7 @@ size-over main draft = min (min (length main) (length draft)) 256
 abbrev pub fresh-book : {C : Type 0} → List C → List C → Book C
 fresh-book main draft = book main draft (fresh-state (size-over main draft))
 
--- ---- begin, give up: both rows stay ----
+-- ---- begin, give up, group size: both rows stay ----
 
 abbrev pub with-state : {C X : Type 0} → Book C → X × State → X × Book C
 with-state b p = (p .0, book (b .main) (b .draft) (p .1))
@@ -47,6 +47,9 @@ book-begin b class = with-state b (begin-step (b .state) class)
 
 abbrev pub book-give-up : {C : Type 0} → Book C → ℕ → Result (Unit {0}) Refusal × Book C
 book-give-up b ticket = with-state b (give-up-step (b .state) ticket)
+
+abbrev pub book-group-size : {C : Type 0} → Book C → ℕ → Result ℕ Refusal × Book C
+book-group-size b size = with-state b (group-size-step (b .state) size)
 
 -- ---- read: both rows stay; a grant gives the cell of the store that the state names ----
 

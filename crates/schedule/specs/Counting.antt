@@ -64,3 +64,16 @@ left n closing.Rejected =
       «given_up» = n .«given_up»;
       rejected = n .rejected + 1;
     }
+
+-- the group size from the next begin on
+abbrev pub resized : Counters → ℕ → Counters
+resized n size =
+    record {
+      group = n .group;
+      members = n .members;
+      «group_size» = size;
+      begun = n .begun;
+      ended = n .ended;
+      «given_up» = n .«given_up»;
+      rejected = n .rejected;
+    }

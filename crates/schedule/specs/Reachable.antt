@@ -3,7 +3,7 @@ use lib.ListN.{length}
 use mathlib.Core.List.{List}
 use mathlib.Core.Path.{_≡_}
 use Prim.Native.Nat.{ℕ}
-use Rattle.schedule.specs.Books.{Book, book-begin, book-end, book-give-up, book-read, book-write, fresh-book, size-over}
+use Rattle.schedule.specs.Books.{Book, book-begin, book-end, book-give-up, book-group-size, book-read, book-write, fresh-book, size-over}
 use Rattle.schedule.specs.declared.request.Request.{Request}
 use Rattle.schedule.specs.declared.request.Request.the-variants as request
 use Rattle.schedule.specs.Verdicts.{May}
@@ -15,6 +15,7 @@ after may b (request.Read ticket cell) = book-read may b ticket cell .1
 after may b (request.Write ticket cell c) = book-write may b ticket cell c .1
 after may b (request.End ticket) = book-end b ticket .1
 after may b (request.GiveUp ticket) = book-give-up b ticket .1
+after may b (request.GroupSize size) = book-group-size b size .1
 
 -- a fresh book over any two rows, after any requests in any order
 pub data Reachable {C : Type 0} (may : May) : Book C → Type 0 where

@@ -3,7 +3,7 @@ use lib.ListN.{replicate, set}
 use mathlib.Core.List.{List}
 use Prim.Native.Nat.{ℕ}
 use Rattle.schedule.specs.Cells.{all-released, all-stamped, fresh-record, read-noted, write-noted}
-use Rattle.schedule.specs.Counting.{fresh-counters, left}
+use Rattle.schedule.specs.Counting.{fresh-counters, left, resized}
 use Rattle.schedule.specs.declared.cell.CellRecord.{CellRecord}
 use Rattle.schedule.specs.declared.counters.Closing.{Closing}
 use Rattle.schedule.specs.declared.counters.Closing.the-variants as closing
@@ -57,6 +57,10 @@ stamping s row group = record { jobs = s .jobs; cells = all-stamped (s .cells) r
 -- the job in this row, with this ticket and of this group, ends
 abbrev pub finished : State → ℕ → ℕ → ℕ → State
 finished s row ticket group = closed (stamping s row group) row ticket closing.Ended
+
+-- another group size is in force; no job changes its group
+abbrev pub resizing : State → ℕ → State
+resizing s size = record { jobs = s .jobs; cells = s .cells; counters = resized (s .counters) size }
 
 -- the figures that the steps count; open is the number of open jobs
 abbrev pub report-of : State → Report

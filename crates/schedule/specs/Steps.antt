@@ -1,4 +1,4 @@
--- The five requests on the scheduler's state: what each answers, and the state after it. A read is answered by the store
+-- The six requests on the scheduler's state: what each answers, and the state after it. A read is answered by the store
 -- to read from; what the two stores hold comes in with a book.
 use lib.Dec.{leb}
 use lib.ListN.{length}
@@ -20,7 +20,7 @@ use Rattle.schedule.specs.declared.verdict.Source.the-variants as source
 use Rattle.schedule.specs.declared.verdict.Verdict.{Verdict}
 use Rattle.schedule.specs.declared.verdict.Verdict.the-variants as verdict
 use Rattle.schedule.specs.Jobs.{find, for-another, holds, job-in, vacant}
-use Rattle.schedule.specs.States.{State, beginning, closed, finished, reading, waiting, writing}
+use Rattle.schedule.specs.States.{State, beginning, closed, finished, reading, resizing, waiting, writing}
 use Rattle.schedule.specs.Verdicts.{May, read-verdict, write-verdict}
 use Rattle.std.specs.declared.option.Option.{Option}
 use Rattle.std.specs.declared.option.Option.the-variants.{None, Some}
@@ -134,3 +134,10 @@ give-up-in s ticket (Some row) = (Ok tt, closed s row ticket closing.GaveUp)
 
 abbrev pub give-up-step : State → ℕ → Result (Unit {0}) Refusal × State
 give-up-step s ticket = give-up-in s ticket (find (holds ticket) (s .jobs))
+
+-- ---- group size ----
+
+-- 9 where it is 0 or above a million
+abbrev pub group-size-step : State → ℕ → Result ℕ Refusal × State
+group-size-step s size =
+    cond (leb size 0) (Err refusal.NoSuchGroupSize, s) (cond (leb 1000001 size) (Err refusal.NoSuchGroupSize, s) (Ok size, resizing s size))

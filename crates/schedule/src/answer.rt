@@ -16,6 +16,8 @@ pub enum Refusal {
     NoSuchCell,
     // the job waits for another request
     JobWaits,
+    // the group size is 0 or above a million
+    NoSuchGroupSize,
 }
 
 // Why a read or a write is rejected. A rejection closes the job.
@@ -48,6 +50,7 @@ impl Refusal {
             Refusal::NoOpenJob => 4,
             Refusal::NoSuchCell => 5,
             Refusal::JobWaits => 6,
+            Refusal::NoSuchGroupSize => 9,
         }
     }
 }

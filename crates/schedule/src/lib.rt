@@ -16,6 +16,7 @@ pub use counters::Report;
 pub use job::Job;
 pub use job::Kind;
 pub use job::Wait;
+pub use request::Event;
 pub use request::Request;
 pub use verdict::Blockers;
 pub use verdict::Source;

@@ -12,6 +12,3 @@ pub use row::Outside;
 pub use row::Store;
 pub use window::Window;
 pub use window::WindowStore;
-
-#[cfg(test)]
-mod tests;

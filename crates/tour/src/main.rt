@@ -6,13 +6,17 @@ mod shown;
 
 use book::Book;
 use engine::Unopened;
+use schedule::Event;
 use schedule::Reply;
+use schedule::Request;
 use shown::Hex;
 use shown::HexDisplay;
 use shown::Metres;
 use shown::MetresDisplay;
 use shown::RuleTable;
 use shown::RuleTableDisplay;
+use shown::Told;
+use shown::ToldDisplay;
 use std::alloc::Global;
 use std::io;
 use store::Bytes;
@@ -41,6 +45,12 @@ fn correct(bytes: &mut [u8], i: usize, height: i32)
 {
     let mut store = Bytes::new(bytes);
     let _ = store.put(i, height);
+}
+
+fn correct_all(bytes: &mut [u8], heights: &[i32]) {
+    for (i, height) in heights.iter().enumerate() {
+        correct(bytes, i, *height);
+    }
 }
 
 // Puts one height, and says what became of it.
@@ -107,73 +117,17 @@ fn show_the_rules(rt: &impl Print) -> io::Result<()> {
     rt.print(RuleTable(&Classes))
 }
 
-// Begins a job, and says which.
-fn begin<M: Store<Cell = i32>, D: Store<Cell = i32>, W: WaitingRule>(
+// Submits one request, prints it with its answer, and hands on the height that it read, if any.
+fn ask<M: Store<Cell = i32>, D: Store<Cell = i32>, W: WaitingRule>(
     rt: &impl Print,
     book: &mut Book<M, D, W>,
-    class: u32,
-) -> io::Result<()> {
-    match book.begin(class) {
-        Ok((ticket, group, place)) => println!(
-            rt,
-            "  begin: job {ticket}, place {place} in group {group}"
-        ),
-        Err(why) => println!(rt, "  begin: refused, {}", why.number()),
-    }
-}
-
-fn read<M: Store<Cell = i32>, D: Store<Cell = i32>, W: WaitingRule>(
-    rt: &impl Print,
-    book: &mut Book<M, D, W>,
-    ticket: u32,
-    cell: u32,
-) -> io::Result<()> {
-    print!(rt, "  job {ticket} reads cell {cell}: ")?;
-    match book.read(ticket, cell) {
-        Reply::Granted(height) => println!(rt, "{} m", Metres(height)),
-        other => tell(rt, other),
-    }
-}
-
-fn write<M: Store<Cell = i32>, D: Store<Cell = i32>, W: WaitingRule>(
-    rt: &impl Print,
-    book: &mut Book<M, D, W>,
-    ticket: u32,
-    cell: u32,
-    height: i32,
-) -> io::Result<()> {
-    print!(
-        rt,
-        "  job {ticket} writes {} m into cell {cell}: ",
-        Metres(height)
-    )?;
-    match book.write(ticket, cell, height) {
-        Reply::Granted(()) => println!(rt, "written"),
-        other => tell(rt, other),
-    }
-}
-
-// Says what came in place of a grant.
-fn tell<T: Drop>(rt: &impl Print, reply: Reply<T>) -> io::Result<()> {
-    match reply {
-        Reply::Granted(_) => println!(rt, "granted"),
-        Reply::Wait(blocker) => println!(rt, "wait for job {blocker}"),
-        Reply::Rejected(why) => println!(rt, "rejected, {} naming {}", why.number(), why.detail()),
-        Reply::Refused(why) => println!(rt, "refused, {}", why.number()),
-    }
-}
-
-fn end<M: Store<Cell = i32>, D: Store<Cell = i32>, W: WaitingRule>(
-    rt: &impl Print,
-    book: &mut Book<M, D, W>,
-    ticket: u32,
-) -> io::Result<()> {
-    match book.end(ticket) {
-        Ok((group, number)) => println!(
-            rt,
-            "  job {ticket} ends: number {number}, of group {group}"
-        ),
-        Err(why) => println!(rt, "  job {ticket} ends: refused, {}", why.number()),
+    request: Request<i32>,
+) -> io::Result<Option<i32>> {
+    let event = book.submit(request);
+    println!(rt, "  {}", Told(event))?;
+    match event {
+        Event::Read(_, _, Reply::Granted(height)) => Ok(Some(height)),
+        _ => Ok(None),
     }
 }
 
@@ -203,38 +157,135 @@ fn show_report<M: Store<Cell = i32>, D: Store<Cell = i32>, W: WaitingRule>(
 }
 
 // A crew, job 2, corrects two heights while another job wants to read one of them.
+const SURVEY: [Request<i32>; 6] = [
+    Request::Begin(0),
+    Request::Begin(1),
+    Request::Write(2, 0, 1_234_600),
+    Request::Write(2, 1, 1_234_550),
+    Request::Read(2, 0),
+    Request::Read(1, 0),
+];
+
+const ENDS: [Request<i32>; 4] = [
+    Request::End(1),
+    Request::End(2),
+    Request::Read(1, 0),
+    Request::End(1),
+];
+
 fn survey<M: Store<Cell = i32>, D: Store<Cell = i32>, W: WaitingRule>(
     rt: &impl Print,
     book: &mut Book<M, D, W>,
 ) -> io::Result<()> {
     show_main_row(rt, book)?;
-    begin(rt, book, 0)?;
-    begin(rt, book, 1)?;
-    write(rt, book, 2, 0, 1_234_600)?;
-    write(rt, book, 2, 1, 1_234_550)?;
-    read(rt, book, 2, 0)?;
-    read(rt, book, 1, 0)?;
-    end(rt, book, 1)?;
+    for request in SURVEY {
+        ask(rt, book, request)?;
+    }
     show_main_row(rt, book)?;
-    end(rt, book, 2)?;
-    read(rt, book, 1, 0)?;
-    end(rt, book, 1)?;
+    for request in ENDS {
+        ask(rt, book, request)?;
+    }
     show_main_row(rt, book)?;
     show_report(rt, book)
 }
 
-// Opens a book over the first cells of two rows of bytes, carries out the survey, and closes the book.
-fn carry_out_a_job(rt: &(impl Print + Alloc<A = Global>)) -> io::Result<()> {
-    println!(rt, "A book of 4 cells under the rule elder.")?;
+// The old model's heights, and the new one's.
+const OLD: i32 = 10_000;
+
+const NEW: i32 = 20_000;
+
+// The reader has read two cells; then the other job changes all four and ends; then the reader reads the other two.
+fn straddle<M: Store<Cell = i32>, D: Store<Cell = i32>, W: WaitingRule>(
+    rt: &impl Print,
+    book: &mut Book<M, D, W>,
+    reader: u32,
+    changer: u32,
+) -> io::Result<()> {
+    let first = ask(rt, book, Request::Read(reader, 0))?;
+    let second = ask(rt, book, Request::Read(reader, 1))?;
+    for cell in 0..4 {
+        ask(rt, book, Request::Write(changer, cell, NEW))?;
+    }
+    ask(rt, book, Request::End(changer))?;
+    let third = ask(rt, book, Request::Read(reader, 2))?;
+    let fourth = ask(rt, book, Request::Read(reader, 3))?;
+    ask(rt, book, Request::End(reader))?;
+    let cells = [first, second, third, fourth];
+    let told = if all_are(&cells, OLD) {
+        "has four cells of the old model"
+    } else if all_are(&cells, NEW) {
+        "has four cells of the new model"
+    } else if cells.contains(&None) {
+        "was turned away before it could mix two models"
+    } else {
+        "has cells of two models"
+    };
+    println!(rt, "  The reader {told}.")
+}
+
+// Whether all four cells were read, and each gave this height.
+fn all_are(cells: &[Option<i32>], height: i32) -> bool {
+    for cell in cells {
+        if *cell != Some(height) {
+            return false;
+        }
+    }
+    true
+}
+
+// Begins two jobs in groups of this size, and lets one read across the other's change of model.
+fn change_of_model<M: Store<Cell = i32>, D: Store<Cell = i32>, W: WaitingRule>(
+    rt: &impl Print,
+    book: &mut Book<M, D, W>,
+    group_size: u32,
+    reader: u32,
+    changer: u32,
+) -> io::Result<()> {
+    ask(rt, book, Request::GroupSize(group_size))?;
+    ask(rt, book, Request::Begin(0))?;
+    ask(rt, book, Request::Begin(0))?;
+    straddle(rt, book, reader, changer)
+}
+
+// What a book of 4 cells is opened for.
+#[derive(Clone, Copy)]
+enum Task {
+    Survey,
+    // the group size, the reader and the job that changes the model
+    ChangeOfModel(u32, u32, u32),
+}
+
+fn carry_out<M: Store<Cell = i32>, D: Store<Cell = i32>, W: WaitingRule>(
+    rt: &impl Print,
+    book: &mut Book<M, D, W>,
+    task: Task,
+) -> io::Result<()> {
+    match task {
+        Task::Survey => survey(rt, book),
+        Task::ChangeOfModel(size, reader, changer) => change_of_model(
+            rt,
+            book,
+            size,
+            reader,
+            changer,
+        ),
+    }
+}
+
+// Opens a book over two rows of bytes, carries out the task, and closes the book.
+fn with_a_book(
+    rt: &(impl Print + Alloc<A = Global>),
+    heights: [i32; 4],
+    task: Task,
+) -> io::Result<()> {
     let mut main_bytes = [0u8; 16];
     let mut draft_bytes = [0u8; 16];
-    correct(&mut main_bytes, 0, 1_234_567);
-    correct(&mut main_bytes, 1, 1_234_512);
+    correct_all(&mut main_bytes, &heights);
     let main = Window::new(Bytes::new(&mut main_bytes), 0, 4);
     let draft = Window::new(Bytes::new(&mut draft_bytes), 0, 4);
     match Book::open(rt.alloc(), main, draft, Elder) {
         Ok(mut book) => {
-            let done = survey(rt, &mut book);
+            let done = carry_out(rt, &mut book, task);
             let (_, _, _) = book.close();
             done
         }
@@ -251,5 +302,18 @@ fn carry_out_a_job(rt: &(impl Print + Alloc<A = Global>)) -> io::Result<()> {
 fn main(rt: LibcRuntime) -> io::Result<()> {
     work_on_a_receiver(&rt)?;
     show_the_rules(&rt)?;
-    carry_out_a_job(&rt)
+    println!(
+        rt,
+        "A book of 4 cells under the rule elder: a crew corrects two heights."
+    )?;
+    with_a_book(&rt, [1_234_567, 1_234_512, 0, 0], Task::Survey)?;
+    println!(
+        rt,
+        "A change of model by a job of a later group than the reader's:"
+    )?;
+    with_a_book(&rt, [OLD, OLD, OLD, OLD], Task::ChangeOfModel(1, 1, 2))?;
+    println!(rt, "A change of model by a job of the same group:")?;
+    with_a_book(&rt, [OLD, OLD, OLD, OLD], Task::ChangeOfModel(8, 1, 2))?;
+    println!(rt, "A change of model by a job of an earlier group:")?;
+    with_a_book(&rt, [OLD, OLD, OLD, OLD], Task::ChangeOfModel(1, 2, 1))
 }

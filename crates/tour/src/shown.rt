@@ -1,4 +1,7 @@
 // How the tour writes what it shows.
+use schedule::Event;
+use schedule::Refusal;
+use schedule::Reply;
 use std::fmt;
 use waiting::Class;
 use waiting::Party;
@@ -90,5 +93,87 @@ pub impl<'a, R: WaitingRule> fmt::Display for RuleTable<'a, R> as RuleTableDispl
             write_row(self.0, *waiter, f)?;
         }
         Ok(())
+    }
+}
+
+// A request to a receiver's book with the answer that it got.
+#[derive(Clone, Copy)]
+pub struct Told(pub Event<i32>);
+
+fn write_refusal<W: fmt::Write>(why: Refusal, f: &mut fmt::Formatter<W>) -> fmt::Result {
+    let number = why.number();
+    write!(f, "refused, {number}")
+}
+
+// What came in place of a grant.
+fn write_reply<T, W: fmt::Write>(reply: &Reply<T>, f: &mut fmt::Formatter<W>) -> fmt::Result {
+    match reply {
+        Reply::Granted(_) => write!(f, "granted"),
+        Reply::Wait(blocker) => write!(f, "wait for job {blocker}"),
+        Reply::Rejected(why) => {
+            let number = why.number();
+            let detail = why.detail();
+            write!(f, "rejected, {number} naming {detail}")
+        }
+        Reply::Refused(why) => write_refusal(*why, f),
+    }
+}
+
+fn write_read<W: fmt::Write>(
+    ticket: u32,
+    cell: u32,
+    reply: &Reply<i32>,
+    f: &mut fmt::Formatter<W>,
+) -> fmt::Result {
+    write!(f, "job {ticket} reads cell {cell}: ")?;
+    match reply {
+        Reply::Granted(height) => {
+            let metres = Metres(*height);
+            write!(f, "{metres} m")
+        }
+        other => write_reply(other, f),
+    }
+}
+
+fn write_begin<W: fmt::Write>(
+    class: u32,
+    answer: Result<(u32, u32, u32), Refusal>,
+    f: &mut fmt::Formatter<W>,
+) -> fmt::Result {
+    write!(f, "begin, class {class}: ")?;
+    match answer {
+        Ok((ticket, group, place)) => write!(f, "job {ticket}, place {place} in group {group}"),
+        Err(why) => write_refusal(why, f),
+    }
+}
+
+fn write_end<W: fmt::Write>(
+    ticket: u32,
+    answer: Result<(u32, u32), Refusal>,
+    f: &mut fmt::Formatter<W>,
+) -> fmt::Result {
+    write!(f, "job {ticket} ends: ")?;
+    match answer {
+        Ok((group, number)) => write!(f, "end {number}, in group {group}"),
+        Err(why) => write_refusal(why, f),
+    }
+}
+
+pub impl fmt::Display for Told as ToldDisplay {
+    fn fmt<W: fmt::Write>(&self, f: &mut fmt::Formatter<W>) -> fmt::Result {
+        match self.0 {
+            Event::Begin(class, answer) => write_begin(class, answer, f),
+            Event::Read(ticket, cell, reply) => write_read(ticket, cell, &reply, f),
+            Event::Write(ticket, cell, height, reply) => {
+                let metres = Metres(height);
+                write!(f, "job {ticket} writes {metres} m into cell {cell}: ")?;
+                write_reply(&reply, f)
+            }
+            Event::End(ticket, answer) => write_end(ticket, answer, f),
+            Event::GiveUp(ticket, Ok(())) => write!(f, "job {ticket} gives up"),
+            Event::GroupSize(_, Ok(size)) => write!(f, "a group takes {size}"),
+            Event::GiveUp(_, Err(why)) => write_refusal(why, f),
+            Event::GroupSize(_, Err(why)) => write_refusal(why, f),
+        }
     }
 }

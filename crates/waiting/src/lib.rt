@@ -29,6 +29,3 @@ pub use table::DecisionDebug;
 pub use table::DecisionEq;
 pub use table::DecisionPartialEq;
 pub use table::decision_of;
-
-#[cfg(test)]
-mod tests;

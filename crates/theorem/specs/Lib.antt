@@ -1,0 +1,4 @@
+pub mod Calls
+pub mod Histories
+pub mod Reports
+pub mod Theorem
