@@ -34,7 +34,7 @@ BY_HAND = {
 }
 NAME = re.compile(r"""[^\s(){}\[\].;,@`"«»:]+""")
 OWN_FORM = re.compile(r"[A-Za-z][A-Za-z0-9_'₁₂]*(?:-[A-Za-z0-9][A-Za-z0-9_'₁₂]*)+[⁺⁻]?")
-IS_ANSWER = re.compile(r"/(Answers|Invariants)\.antt$")
+IS_ANSWER = re.compile(r"/proofs/.+/(Answers|Invariants)\.antt$")
 A_USE = re.compile(r"(?m)^(?:pub |ghost )*use ([^\s{]+)\.\{([^}]*)\}")
 A_FIELD = re.compile(r"(?m)^  (?:pub )?(\S+) :(?=\s)")
 

@@ -1,4 +1,6 @@
 // The lines of text in which a book's answers are told, byte for byte.
+#![tactic(auto)]
+
 pub mod answer;
 pub mod line;
 

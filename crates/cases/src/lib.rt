@@ -1,5 +1,7 @@
 // The boundary cases of the scheduler. In specs/: the table of them, and the statement that each of its lines holds; in
 // proofs/: that it follows from the definitions of the requests.
+#![tactic(auto)]
+
 ghost use Rattle.std.specs.Prelude.{◌≡◌, length};
 ghost use Rattle.cases.specs.Cases.{EveryLineHolds, cases};
 

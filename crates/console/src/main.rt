@@ -1,4 +1,6 @@
 // The console: reads request lines from standard input and writes one answer line for each to standard output.
+#![tactic(auto)]
+
 use book::Book;
 use byte_store::Bytes;
 use engine::Unopened;

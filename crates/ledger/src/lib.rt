@@ -2,6 +2,8 @@
 //
 // A ledger holds the open jobs, a record for each cell, and the counters. A read is answered by the store to read from;
 // the caller does the reading and the writing.
+#![tactic(auto)]
+
 mod admission;
 pub mod beginning;
 pub mod closing;

@@ -1,4 +1,6 @@
 // Decimal numerals of bounded numbers: how far a text goes on to one.
+#![tactic(auto)]
+
 pub mod range;
 pub mod scan;
 

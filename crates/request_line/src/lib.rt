@@ -1,4 +1,6 @@
 // Request lines: the request that a line asks for, or the place at which it goes wrong.
+#![tactic(auto)]
+
 pub mod reading;
 pub mod word;
 

@@ -1,4 +1,6 @@
 // The scheduler's plain data, and in specs/ the definitions of what each request does to it.
+#![tactic(auto)]
+
 pub mod answer;
 pub mod cell;
 pub mod counters;

@@ -1,4 +1,6 @@
 // Stores: a row of cells of fixed length behind one trait, and memory handed in as a store.
+#![tactic(auto)]
+
 pub mod memory;
 pub mod row;
 

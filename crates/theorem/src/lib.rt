@@ -1,5 +1,7 @@
 // The theorem over every run of a book. In specs/: histories, the serial order, the wait-for graph, runs and the theorem;
 // in proofs/: its proof. The calls of the book name it in their contracts.
+#![tactic(auto)]
+
 ghost use Rattle.std.specs.Prelude.{◌≡◌};
 ghost use Rattle.theorem.specs.Calls.{request_of};
 

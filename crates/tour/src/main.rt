@@ -1,4 +1,6 @@
 // A tour of the library: one task from start to end, to be read first and copied from.
+#![tactic(auto)]
+
 ghost use Rattle.std.specs.Prelude.{◌≡◌};
 ghost use Rattle.byte_store.specs.Numbers.{put_number};
 

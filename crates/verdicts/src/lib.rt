@@ -1,4 +1,6 @@
 // The verdicts on reads and writes that are not refused: granted, wait, or rejected.
+#![tactic(auto)]
+
 mod blockers;
 pub mod judging;
 

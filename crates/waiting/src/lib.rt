@@ -2,6 +2,8 @@
 //
 // A waiting rule answers yes or no over two jobs of one group, each given by its class and its ticket. It owes two laws:
 // no job may wait for itself, and waiting is transitive. Under both no chain of waits comes back to its start.
+#![tactic(auto)]
+
 pub mod chain;
 pub mod class;
 pub mod classes;

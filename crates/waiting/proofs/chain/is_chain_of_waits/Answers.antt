@@ -15,7 +15,7 @@ loop-blocker-init g c =
 pub returns : goal.returns
 returns g c =
     let may = g.W.WaitingRule.may c.args.rule.now in
-    let none_left = nil_from_length c.loop-blocker.ahead.now c.in-default.ensures.cases in
+    let none_left = nil_from_length c.loop-blocker.ahead.now c.in_default.ensures.cases in
     record {
       answer = ap (chain_from may c.loop-blocker.waiter) (sym none_left) ∙ c.loop-blocker.invariant.0;
       no_cycle = c.loop-blocker.invariant.1;
