@@ -6,4 +6,4 @@ use Rattle.store.specs.Rows.{outside}
 
 pub returns : goal.returns
 returns g c =
-    record { cell = c.ok-or.ensures.value ∙ ap (λ o. ok_or o outside) (c.copied.ensures ∙ item_nth _ _ _ c.get.ensures.lookup) }
+    record { cell = c.ok_or.ensures.value ∙ ap (λ o. ok_or o outside) (c.copied.ensures ∙ item_nth _ _ _ c.get.ensures.lookup) }

@@ -7,6 +7,6 @@ pub returns-then-i-self : goal.returns-then-i-self
 returns-then-i-self g c =
     record {
       answer = put_past c.args.self.now.cells.now c.args.i c.if-i-self.true;
-      row-after = sym (set_past _ c.args.i _ c.if-i-self.true);
-      same-loan = refl;
+      row_after = sym (set_past _ c.args.i _ c.if-i-self.true);
+      same_loan = refl;
     }
