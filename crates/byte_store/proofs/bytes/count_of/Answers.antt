@@ -3,4 +3,4 @@ use Rattle.byte_store.proofs.bytes.count_of.Goals as goal
 use Rattle.byte_store.proofs.Numbering.{numbers_length}
 
 pub returns : goal.returns
-returns c = record { count = sym (numbers_length c.args.bytes.now); four-to-each = refl }
+returns c = record { count = sym (numbers_length c.args.bytes.now); four_to_each = refl }

@@ -9,14 +9,14 @@ use Rattle.store.specs.Rows.{outside}
 pub returns : goal.returns
 returns c =
     let bytes = c.args.bytes.now in
-    let fits : SFits w32 c.number-from.result = search rules in
+    let fits : SFits w32 c.number_from.result = search rules in
     record {
       cell =
-          ap Ok (to_z-of_z fits ∙ c.number-from.ensures.number)
+          ap Ok (to_z-of_z fits ∙ c.number_from.ensures.number)
           ∙ sym (ap (λ o. ok_or o outside) (numbers_at bytes c.args.i (omega arith)));
     }
 
-pub returns-then-i-count-of : goal.returns-then-i-count-of
-returns-then-i-count-of c =
+pub returns-then-i-count_of : goal.returns-then-i-count_of
+returns-then-i-count_of c =
     let bytes = c.args.bytes.now in
     record { cell = cell_past (numbers bytes) c.args.i (omega arith) }

@@ -9,16 +9,16 @@ use Rattle.schedule.proofs.Sweeps.{swept_all, swept_more}
 pub loop-r-preserved : goal.loop-r-preserved
 loop-r-preserved c =
     swept_more (λ r. released c.args.row (stamped c.args.row c.args.group r))
-    c.deref-mut-r-items.result.now c.loop-r.r-items c.loop-r.r-index no_record c.keep-and-release-record.new.r
-    (omega arith) (omega arith) c.loop-r.invariant c.keep-and-release-record.ensures.record-after
+    c.deref_mut-r-items.result.now c.loop-r.r-items c.loop-r.r-index no_record c.keep_and_release_record.new.r
+    (omega arith) (omega arith) c.loop-r.invariant c.keep_and_release_record.ensures.record_after
 
 pub returns : goal.returns
 returns c =
     let v = c.args.records.now in
     let f : CellRecord → CellRecord = λ r. released c.args.row (stamped c.args.row c.args.group r) in
     record {
-      records-after =
-          swept_all f (vec_len v) (vec_items v) c.loop-r.r-items c.deref-mut-r-items.result.now c.loop-r.r-index
-          v.ok.0 c.deref-mut-r-items.ensures.value (omega arith) c.loop-r.invariant
+      records_after =
+          swept_all f (vec_len v) (vec_items v) c.loop-r.r-items c.deref_mut-r-items.result.now c.loop-r.r-index
+          v.ok.0 c.deref_mut-r-items.ensures.value (omega arith) c.loop-r.invariant
           ∙ sym (map-map (released c.args.row) (stamped c.args.row c.args.group) (vec_items v));
     }

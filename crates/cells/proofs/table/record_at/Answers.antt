@@ -10,4 +10,4 @@ item-nth xs i None h = sym (slice_get_past xs i h.3)
 item-nth xs i (Some x) h = ap Some (h.3.1 x.now) ∙ sym (slice_get-get_or xs i x.now h.3.0)
 
 pub returns : goal.returns
-returns c = record { record-there = item-nth _ _ _ c.get.ensures.lookup }
+returns c = record { record_there = item-nth _ _ _ c.get.ensures.lookup }

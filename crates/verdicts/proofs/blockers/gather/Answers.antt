@@ -6,7 +6,7 @@ pub loop-i-preserved : goal.loop-i-preserved
 loop-i-preserved g c =
     c.loop-i.invariant
     ∙ gathered_more (g.W.WaitingRule.may c.args.rule.now) c.args.cell.now c.args.row c.args.job c.args.rows.now
-    c.loop-i.i c.loop-i.known c.with-row-known.result (omega arith) c.with-row-known.ensures.blockers
+    c.loop-i.i c.loop-i.known c.with_row-known.result (omega arith) c.with_row-known.ensures.blockers
 
 pub returns : goal.returns
 returns g c =

@@ -8,7 +8,7 @@ pub returns-in-Some : goal.returns-in-Some
 returns-in-Some g c =
     let w = c.args.self.now in
     record {
-      cell = c.get.ensures.cell-of-row ∙ cell_found w.start w.count c.args.i _ (g.S.Store.row w.below) c.in-Some.ensures.place;
+      cell = c.get.ensures.cell_of_row ∙ cell_found w.start w.count c.args.i _ (g.S.Store.row w.below) c.in-Some.ensures.place;
     }
 
 pub returns-in-None : goal.returns-in-None

@@ -12,9 +12,9 @@ returns-in-Some g c =
     let found = c.in-Some.ensures.place in
     record {
       answer = c.put.ensures.answer ∙ answer_found w.start w.count c.args.i _ row found;
-      row-after = ap (part w.start w.count) c.put.ensures.row-after ∙ row_found w.start w.count c.args.i _ row found c.args.cell;
-      row-below-after = set_below w.start w.count c.args.i _ row found c.args.cell c.put.result _ c.put.ensures.answer c.put.ensures.row-after;
-      same-frame = (refl, refl);
+      row_after = ap (part w.start w.count) c.put.ensures.row_after ∙ row_found w.start w.count c.args.i _ row found c.args.cell;
+      row_below_after = set_below w.start w.count c.args.i _ row found c.args.cell c.put.result _ c.put.ensures.answer c.put.ensures.row_after;
+      same_frame = (refl, refl);
     }
 
 pub returns-in-None : goal.returns-in-None
@@ -26,7 +26,7 @@ returns-in-None g c =
     in
     record {
       answer = put_past (part w.start w.count row) c.args.i past;
-      row-after = sym (set_past _ c.args.i _ past);
-      row-below-after = refl;
-      same-frame = (refl, refl);
+      row_after = sym (set_past _ c.args.i _ past);
+      row_below_after = refl;
+      same_frame = (refl, refl);
     }
