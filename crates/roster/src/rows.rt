@@ -33,7 +33,7 @@ impl JobRows {
     pub fn allocator(&self) -> Global
         ensures heap { result ≡ vec_allocator self.now.rows }
     {
-        self.rows.allocator()
+        *self.rows.allocator()
     }
 
     pub fn as_slice(&self) -> &[Option<Job>]

@@ -100,7 +100,6 @@ module _ (may : May) (irreflexive : (a : Party) → may a a ≡ false) (transiti
   of_every_run C first h b r = every_run first h b r
 
   after_step : {C : Type 0} (b : Book C) (q : Request C) → KeepsSerializable may (step may b q).0 b (step may b q).1
-  unfolding KeepsSerializable
   after_step b q first h r = let s = asked r q in (every_run first h b r, s, every_run first _ _ s)
 
   -- on one request

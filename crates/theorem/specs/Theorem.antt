@@ -70,7 +70,7 @@ pub record SerializableWithoutDeadlock {C : Type 0} (first : List C) (h : List (
 
 -- The theorem on one request: whatever run led to the book before it, all this holds there; and by this event the run
 -- goes on to the book after it, and it holds again.
-unfoldable pub KeepsSerializable : {C : Type 0} → May → Event C → Book C → Book C → Type 0
+abbrev pub KeepsSerializable : {C : Type 0} → May → Event C → Book C → Book C → Type 0
 KeepsSerializable {C = C} may e before after =
     (first : List C) (h : History C)
     → Run may first h before
