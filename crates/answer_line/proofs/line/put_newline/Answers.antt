@@ -6,5 +6,5 @@ returns c =
     let none = drop_of_length-le c.args.line.now {i = 64} (omega arith) in
     record {
       place = omega arith;
-      put = c.put-byte.ensures.put ∙ ap (λ (l : List ℕ). 10 ∷ l) none;
+      put = c.put_byte.ensures.put ∙ ap (λ (l : List ℕ). 10 ∷ l) none;
     }

@@ -6,26 +6,26 @@ use Rattle.std.proofs.lemmas.Fmt.{decimal_nonempty, length-decimal-le}
 pub loop-rest-init : goal.loop-rest-init
 loop-rest-init c = record { smaller = omega arith; within = omega arith; long = refl; whole = refl }
 
-pub put-byte-from-requires : goal.put-byte-from-requires
-put-byte-from-requires c = record { room = room_left (omega arith) c.loop-rest.invariant (omega arith) (omega arith) }
+pub put_byte-from-requires : goal.put_byte-from-requires
+put_byte-from-requires c = record { room = room_left (omega arith) c.loop-rest.invariant (omega arith) (omega arith) }
 
 pub loop-rest-preserved : goal.loop-rest-preserved
 loop-rest-preserved c =
-    let put = c.put-byte-from.ensures.put ∙ ap (λ (b : ℕ). b ∷ drop c.loop-rest.from c.loop-rest.line) c.last-digit.ensures.digit in
-    one_digit_more (omega arith) c.loop-rest.invariant c.loop-rest-test.true c.put-byte-from.ensures.place put
+    let put = c.put_byte-from.ensures.put ∙ ap (λ (b : ℕ). b ∷ drop c.loop-rest.from c.loop-rest.line) c.last_digit.ensures.digit in
+    one_digit_more (omega arith) c.loop-rest.invariant c.loop-rest-test.true c.put_byte-from.ensures.place put
 
-pub put-byte-requires : goal.put-byte-requires
-put-byte-requires c = record { room = room_left (omega arith) c.loop-rest.invariant (omega arith) (omega arith) }
+pub put_byte-requires : goal.put_byte-requires
+put_byte-requires c = record { room = room_left (omega arith) c.loop-rest.invariant (omega arith) (omega arith) }
 
 pub returns : goal.returns
 returns c =
     let n = c.args.n in
     let fits : n < 2 ^ 64 = omega arith in
-    let long = as_long fits c.loop-rest.invariant c.loop-rest-test.false c.put-byte.result c.put-byte.ensures.place in
-    let put = c.put-byte.ensures.put ∙ ap (λ (b : ℕ). b ∷ drop c.loop-rest.from c.loop-rest.line) c.last-digit-2.ensures.digit in
+    let long = as_long fits c.loop-rest.invariant c.loop-rest-test.false c.put_byte.result c.put_byte.ensures.place in
+    let put = c.put_byte.ensures.put ∙ ap (λ (b : ℕ). b ∷ drop c.loop-rest.from c.loop-rest.line) c.last_digit-2.ensures.digit in
     record {
-      at-most-20-digits = omega (arith, length-decimal-le 20 n (omega arith) (omega arith) fits);
-      at-most-10-digits = λ small. omega (arith, length-decimal-le 10 n (omega arith) (omega arith) fits);
+      at_most_20_digits = omega (arith, length-decimal-le 20 n (omega arith) (omega arith) fits);
+      at_most_10_digits = λ small. omega (arith, length-decimal-le 10 n (omega arith) (omega arith) fits);
       before = omega (arith, decimal_nonempty n fits);
       put = last_digit_put fits c.loop-rest.invariant c.loop-rest-test.false put;
     }

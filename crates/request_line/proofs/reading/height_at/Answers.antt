@@ -8,10 +8,10 @@ pub returns-in-Ok : goal.returns-in-Ok
 returns-in-Ok c =
     let f : SFits w32 c.in-Ok.value = search rules in
     record {
-      height-or-place = height_part c.args.line.now _ c.args.at c.in-Ok.count _ c.in-Ok.value _ (take_rest c.args.line.now c.args.at) c.in-Ok.ensures.height-or-count (omega arith) (to_z-of_z w32 c.in-Ok.value f);
+      height_or_place = height_part c.args.line.now _ c.args.at c.in-Ok.count _ c.in-Ok.value _ (take_rest c.args.line.now c.args.at) c.in-Ok.ensures.height_or_count (omega arith) (to_z-of_z w32 c.in-Ok.value f);
     }
 
 pub returns-in-Err : goal.returns-in-Err
 returns-in-Err c = record {
-  height-or-place = height_broken c.args.line.now _ c.args.at c.in-Err.count (take_rest c.args.line.now c.args.at) c.in-Err.ensures.height-or-count;
+  height_or_place = height_broken c.args.line.now _ c.args.at c.in-Err.count (take_rest c.args.line.now c.args.at) c.in-Err.ensures.height_or_count;
 }

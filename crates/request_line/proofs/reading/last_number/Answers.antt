@@ -4,19 +4,19 @@ use Rattle.request_line.proofs.Rows.{broken, past, whole}
 use Rattle.request_line.specs.Words.{IsNumber}
 use Rattle.std.proofs.lemmas.Result.{err_from_is_err_and}
 
-pub returns-in-err-text : goal.returns-in-err-text
-returns-in-err-text c =
-    let p = err_from_is_err_and c.from-residual.result c.from-residual.ensures.1 in
-    record { number-or-place = rw (p.1, p.2) (broken c.in-err-text.ensures.number-or-place) }
+pub returns-in_err-text : goal.returns-in_err-text
+returns-in_err-text c =
+    let p = err_from_is_err_and c.from_residual.result c.from_residual.ensures.1 in
+    record { number_or_place = rw (p.1, p.2) (broken c.in_err-text.ensures.number_or_place) }
 
-pub returns-then-not-ends-at : goal.returns-then-not-ends-at
-returns-then-not-ends-at c =
-    let n = subst (IsNumber c.args.line.now c.args.at) c.in-Number.is c.in-ok-text.ensures.number-or-place in
-    record { number-or-place = past n.0 c.place-after-end.ensures.end-of-word c.if-not-ends-at.ensures.line-ends }
+pub returns-then-not-ends_at : goal.returns-then-not-ends_at
+returns-then-not-ends_at c =
+    let n = subst (IsNumber c.args.line.now c.args.at) c.in-Number.is c.in_ok-text.ensures.number_or_place in
+    record { number_or_place = past n.0 c.place_after-end.ensures.end_of_word c.if-not-ends_at.ensures.line_ends }
 
 pub returns : goal.returns
 returns c =
-    let n = subst (IsNumber c.args.line.now c.args.at) c.in-Number.is c.in-ok-text.ensures.number-or-place in
+    let n = subst (IsNumber c.args.line.now c.args.at) c.in-Number.is c.in_ok-text.ensures.number_or_place in
     record {
-      number-or-place = record { fits = n.1; is = whole n.0 c.place-after-end.ensures.end-of-word c.if-not-ends-at.ensures.line-ends ∙ n.2 };
+      number_or_place = record { fits = n.1; is = whole n.0 c.place_after-end.ensures.end_of_word c.if-not-ends_at.ensures.line_ends ∙ n.2 };
     }

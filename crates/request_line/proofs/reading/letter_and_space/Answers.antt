@@ -1,16 +1,16 @@
 use Rattle.request_line.proofs.reading.letter_and_space.Goals as goal
 use Rattle.request_line.proofs.Whole.{empty, no_letter, no_space_after}
 
-pub returns-then-ends-at : goal.returns-then-ends-at
-returns-then-ends-at c = record { letter-or-place = empty c.args.line.now c.if-ends-at.ensures.line-ends }
+pub returns-then-ends_at : goal.returns-then-ends_at
+returns-then-ends_at c = record { letter_or_place = empty c.args.line.now c.if-ends_at.ensures.line_ends }
 
-pub returns-in-default : goal.returns-in-default
-returns-in-default c = record {
-  letter-or-place = no_letter c.args.line.now c.if-ends-at.ensures.line-ends c.in-default.ensures.letter-or-none;
+pub returns-in_default : goal.returns-in_default
+returns-in_default c = record {
+  letter_or_place = no_letter c.args.line.now c.if-ends_at.ensures.line_ends c.in_default.ensures.letter_or_none;
 }
 
-pub returns-then-not-stands-at : goal.returns-then-not-stands-at
-returns-then-not-stands-at c = record {
-  letter-or-place =
-      no_space_after c.args.line.now c.in-Some.letter c.if-ends-at.ensures.line-ends c.in-Some.ensures.letter-or-none c.if-not-stands-at.ensures.byte-there;
+pub returns-then-not-stands_at : goal.returns-then-not-stands_at
+returns-then-not-stands_at c = record {
+  letter_or_place =
+      no_space_after c.args.line.now c.in-Some.letter c.if-ends_at.ensures.line_ends c.in-Some.ensures.letter_or_none c.if-not-stands_at.ensures.byte_there;
 }

@@ -4,17 +4,17 @@ use Rattle.request_line.proofs.Rows.{no_space, no_word, parted}
 use Rattle.request_line.specs.Words.{IsNumber}
 use Rattle.std.proofs.lemmas.Result.{err_from_is_err_and}
 
-pub returns-in-err-text : goal.returns-in-err-text
-returns-in-err-text c =
-    let p = err_from_is_err_and c.from-residual.result c.from-residual.ensures.1 in
-    record { number-or-place = rw (p.1, p.2) (no_word c.in-err-text.ensures.number-or-place) }
+pub returns-in_err-text : goal.returns-in_err-text
+returns-in_err-text c =
+    let p = err_from_is_err_and c.from_residual.result c.from_residual.ensures.1 in
+    record { number_or_place = rw (p.1, p.2) (no_word c.in_err-text.ensures.number_or_place) }
 
-pub returns-then-not-stands-at : goal.returns-then-not-stands-at
-returns-then-not-stands-at c =
-    let n = subst (IsNumber c.args.line.now c.args.at) c.in-Number.is c.in-ok-text.ensures.number-or-place in
-    record { number-or-place = no_space n.0 c.place-after-end.ensures.end-of-word c.if-not-stands-at.ensures.byte-there }
+pub returns-then-not-stands_at : goal.returns-then-not-stands_at
+returns-then-not-stands_at c =
+    let n = subst (IsNumber c.args.line.now c.args.at) c.in-Number.is c.in_ok-text.ensures.number_or_place in
+    record { number_or_place = no_space n.0 c.place_after-end.ensures.end_of_word c.if-not-stands_at.ensures.byte_there }
 
 pub returns : goal.returns
 returns c =
-    let n = subst (IsNumber c.args.line.now c.args.at) c.in-Number.is c.in-ok-text.ensures.number-or-place in
-    record { number-or-place = parted n.0 c.place-after-end.ensures.end-of-word n.1 n.2 c.if-not-stands-at.ensures.byte-there }
+    let n = subst (IsNumber c.args.line.now c.args.at) c.in-Number.is c.in_ok-text.ensures.number_or_place in
+    record { number_or_place = parted n.0 c.place_after-end.ensures.end_of_word n.1 n.2 c.if-not-stands_at.ensures.byte_there }

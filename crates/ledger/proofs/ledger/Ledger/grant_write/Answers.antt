@@ -8,24 +8,19 @@ use Rattle.ledger.specs.declared.ledger.Ledger.{Ledger}
 use Rattle.soundness.specs.Soundness.{ReadersEarlier, group_in}
 use Rattle.schedule.specs.Cells.{record_of}
 
-pub invariant-of-drop : goal.invariant-of-drop
-invariant-of-drop c =
+pub invariant_of-drop : goal.invariant_of-drop
+invariant_of-drop c =
     let l = c.replace-jobs.result in
     let rows = vec_items l.jobs.rows in
-    let then = vec_items c.set-wait.new.self.rows in
-    let e = c.set-wait.ensures.rows-after in
+    let then = vec_items c.set_wait.new.self.rows in
+    let e = c.set_wait.ensures.rows_after in
     let same = sym c.replace-jobs.ensures.value in
-    let Of-group : Ledger → Type 0 = λ x. group_in (vec_items x.jobs.rows) c.args.row ≡ Some c.args.group in
+    let OfGroup : Ledger → Type 0 = λ x. group_in (vec_items x.jobs.rows) c.args.row ≡ Some c.args.group in
     let Clear : Ledger → Type 0 =
-    λ x. ReadersEarlier (group_in (vec_items x.jobs.rows)) (record_of (vec_items x.cells.records) c.args.cell) c.args.row c.args.group in (
-      few_set rows then c.args.row _ e l.few_rows,
-      (
-        counters_sound_wait_set rows then l.counters c.args.row None e l.counters_sound,
-        (
-          ∥∥₁_map l.cells_sound (cells_sound_written rows then (vec_items l.cells.records) (vec_items c.note-write.new.self.records)
-              c.args.cell c.args.row c.args.group e c.note-write.ensures.records-after
-              (subst Of-group same c.requires.of-group) (subst Clear same c.requires.readers_earlier)),
-          tt,
-        ),
-      ),
-    )
+    λ x. ReadersEarlier (group_in (vec_items x.jobs.rows)) (record_of (vec_items x.cells.records) c.args.cell) c.args.row c.args.group in record {
+      few_rows = few_set rows then c.args.row _ e l.few_rows;
+      counters_sound = counters_sound_wait_set rows then l.counters c.args.row None e l.counters_sound;
+      cells_sound = ∥∥₁_map l.cells_sound (cells_sound_written rows then (vec_items l.cells.records) (vec_items c.note_write.new.self.records)
+          c.args.cell c.args.row c.args.group e c.note_write.ensures.records_after
+          (subst OfGroup same c.requires.of_group) (subst Clear same c.requires.readers_earlier));
+    }

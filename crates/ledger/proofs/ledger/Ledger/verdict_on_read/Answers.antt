@@ -14,14 +14,14 @@ returns-in-Some g c =
     let row = c.args.row in
     let job = c.args.job in
     let r = c.in-Some.record.now in
-    let same : r ≡ record_of records cell = nth_element records cell r no_record c.in-Some.ensures.record-there in
-    let v : c.read-verdict.result ≡ read_verdict may rows (record_of records cell) row job =
-    over_equals (λ x y. read_verdict may x y row job) c.read-verdict.result c.as-slice.result.now rows r (record_of records cell)
-    c.read-verdict.ensures.verdict c.as-slice.ensures.rows-lent same in
+    let same : r ≡ record_of records cell = nth_element records cell r no_record c.in-Some.ensures.record_there in
+    let v : c.read_verdict.result ≡ read_verdict may rows (record_of records cell) row job =
+    over_equals (λ x y. read_verdict may x y row job) c.read_verdict.result c.as_slice.result.now rows r (record_of records cell)
+    c.read_verdict.ensures.verdict c.as_slice.ensures.rows_lent same in
     record {
       verdict = v;
       writer_later = λ e. writer_later may rows (record_of records cell) row job (sym v ∙ e);
     }
 
 pub returns-in-None : goal.returns-in-None
-returns-in-None g c = absurd (nth_inside (vec_items c.args.self.now.cells.records) c.args.cell c.in-None.ensures.record-there c.requires.cell-there)
+returns-in-None g c = absurd (nth_inside (vec_items c.args.self.now.cells.records) c.args.cell c.in-None.ensures.record_there c.requires.cell_there)

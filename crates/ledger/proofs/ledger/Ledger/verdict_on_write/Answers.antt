@@ -16,10 +16,10 @@ returns-in-Some g c =
     let row = c.args.row in
     let job = c.args.job in
     let r = c.in-Some.record.now in
-    let same : r ≡ record_of records cell = nth_element records cell r no_record c.in-Some.ensures.record-there in
-    let v : c.write-verdict.result ≡ write_verdict may rows (record_of records cell) row job =
-    over_equals (λ x y. write_verdict may x y row job) c.write-verdict.result c.as-slice.result.now rows r (record_of records cell)
-    c.write-verdict.ensures.verdict c.as-slice.ensures.rows-lent same in
+    let same : r ≡ record_of records cell = nth_element records cell r no_record c.in-Some.ensures.record_there in
+    let v : c.write_verdict.result ≡ write_verdict may rows (record_of records cell) row job =
+    over_equals (λ x y. write_verdict may x y row job) c.write_verdict.result c.as_slice.result.now rows r (record_of records cell)
+    c.write_verdict.ensures.verdict c.as_slice.ensures.rows_lent same in
     record {
       verdict = v;
       readers_earlier = λ e k h f n p.
@@ -27,4 +27,4 @@ returns-in-Some g c =
     }
 
 pub returns-in-None : goal.returns-in-None
-returns-in-None g c = absurd (nth_inside (vec_items c.args.self.now.cells.records) c.args.cell c.in-None.ensures.record-there c.requires.cell-there)
+returns-in-None g c = absurd (nth_inside (vec_items c.args.self.now.cells.records) c.args.cell c.in-None.ensures.record_there c.requires.cell_there)
