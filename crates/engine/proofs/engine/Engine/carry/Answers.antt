@@ -1,7 +1,7 @@
 use Rattle.std.proofs.Common.{ap, ◌∙◌}
 use Rattle.engine.proofs.Carrying.{carry_lack, carry_pass, carry_put}
 use Rattle.engine.proofs.engine.Engine.carry.Goals as goal
-use Rattle.engine.proofs.engine.Engine.carry.Goals.{else-is-written-by, then-is-written-by+in-Ok, then-is-written-by+in-default}
+use Rattle.engine.proofs.engine.Engine.carry.Goals.{else-is_written_by, then-is_written_by+in-Ok, then-is_written_by+in_default}
 use Rattle.ledger.specs.View.{view}
 use Rattle.schedule.specs.Cells.{is_writer, record_of}
 use Rattle.store.specs.Rows.{cell_at}
@@ -14,28 +14,28 @@ loop-cell-preserved g c =
     let main = g.M.Store.row c.args.self.now.main in
     let draft = g.D.Store.row c.args.self.now.draft in
     let at = g.M.Store.row c.loop-cell.self.main in
-    let to = g.M.Store.row c.if-is-written-by.self.main in
+    let to = g.M.Store.row c.if-is_written_by.self.main in
     let inv = c.loop-cell.invariant in
     let same = ap (λ l. is_writer (record_of (view l).cells i).writer row) inv.2 in
     let drafts = ap (λ d. cell_at (g.D.Store.row d) i) inv.1 in
-    elim c.if-is-written-by.branch [
-      | then-is-written-by+in-Ok w ↦ (
-        carry_put i cells row main draft at to inv.0 w.in-Ok.new (w.if-is-written-by.ensures.writer-is-row ∙ same)
-            (w.in-Ok.ensures.cell-of-row ∙ drafts)
-            (ap (λ s. g.M.Store.row s.main) w.self-is ∙ w.put.ensures.row-after),
+    elim c.if-is_written_by.branch [
+      | then-is_written_by+in-Ok w ↦ (
+        carry_put i cells row main draft at to inv.0 w.in-Ok.new (w.if-is_written_by.ensures.writer_is_row ∙ same)
+            (w.in-Ok.ensures.cell_of_row ∙ drafts)
+            (ap (λ s. g.M.Store.row s.main) w.self-is ∙ w.put.ensures.row_after),
         ap (λ s. s.draft) w.self-is ∙ inv.1,
         ap (λ s. s.ledger) w.self-is ∙ inv.2,
         ap (λ s. s.rule) w.self-is ∙ inv.3,
       )
-      | then-is-written-by+in-default w ↦ (
-        carry_lack i cells row main draft at to inv.0 _ (w.in-default.ensures.cell-of-row ∙ drafts)
+      | then-is_written_by+in_default w ↦ (
+        carry_lack i cells row main draft at to inv.0 _ (w.in_default.ensures.cell_of_row ∙ drafts)
             (ap (λ s. g.M.Store.row s.main) w.self-is),
         ap (λ s. s.draft) w.self-is ∙ inv.1,
         ap (λ s. s.ledger) w.self-is ∙ inv.2,
         ap (λ s. s.rule) w.self-is ∙ inv.3,
       )
-      | else-is-written-by w ↦ (
-        carry_pass i cells row main draft at to inv.0 (w.if-is-written-by.ensures.writer-is-row ∙ same)
+      | else-is_written_by w ↦ (
+        carry_pass i cells row main draft at to inv.0 (w.if-is_written_by.ensures.writer_is_row ∙ same)
             (ap (λ s. g.M.Store.row s.main) w.self-is),
         ap (λ s. s.draft) w.self-is ∙ inv.1,
         ap (λ s. s.ledger) w.self-is ∙ inv.2,
