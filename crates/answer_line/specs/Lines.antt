@@ -1,5 +1,5 @@
 -- That an answer is one line, and that two answers never share a line.
-use Rattle.std.specs.Prelude.{◌≡◌, ℕ, ◌^◌, ◌<◌, ℤ, ◌≢◌}
+use Rattle.std.specs.Prelude.{◌≡◌, ℕ, ◌^◌, ◌<◌, ◌≢◌}
 use Rattle.std.specs.Int.Signed.{mag}
 use Rattle.answer_line.specs.declared.answer.Answer.{Answer}
 use Rattle.answer_line.specs.declared.answer.Answer.TheVariants as answer

@@ -1,5 +1,5 @@
 -- Bytes as numbers: how many there are, which bytes make number i, and that replacing those four replaces that number alone.
-use Rattle.std.proofs.Common.{◌≡◌, ℕ, zero, suc, ◌+◌, ◌*◌, ◌/◌, ◌%◌, ◌^◌, ◌<◌, ◌≤◌, cond, List, [], ◌∷◌, length, get_or, drop, set, ℤ, Some, None, sym, refl, ap, ◌∙◌, arith, length-set, to_z-of_z, w32, SFits, to_z, of_z, le-ltb, lt-ltb}
+use Rattle.std.proofs.Common.{◌≡◌, ℕ, zero, suc, ◌+◌, ◌*◌, ◌/◌, ◌%◌, ◌^◌, ◌<◌, ◌≤◌, cond, List, [], ◌∷◌, length, get_or, drop, set, ℤ, Some, sym, refl, ap, ◌∙◌, arith, length-set, to_z-of_z, w32, SFits, to_z, of_z, le-ltb, lt-ltb}
 use Rattle.std.specs.List.{slice_get}
 use Rattle.std.proofs.lemmas.List.{drop-set-lt}
 use mir.ValLaws.{of_z_fits}

@@ -1,8 +1,8 @@
 -- What an answer says of the book after it: a refusal changes nothing, a rejection closes one job, 5 comes exactly outside.
-use Rattle.std.proofs.Common.{◌≡◌, ℕ, zero, suc, ◌<◌, ◌≤◌, Bool, true, false, cond, leb, List, [], ◌∷◌, map, length, get_or, set, is_some, Some, None, Ok, Err, Option, Result, sym, refl, ap, ◌∙◌, subst, arith}
-use Rattle.schedule.proofs.Admitting.{Admitted, admitted_ok, admitted_outside, admitted_outside_only}
+use Rattle.std.proofs.Common.{◌≡◌, ℕ, zero, suc, ◌<◌, Bool, true, false, cond, leb, List, [], ◌∷◌, map, length, set, is_some, Some, None, Ok, Err, Option, Result, sym, refl, ap, ◌∙◌, subst, arith}
+use Rattle.schedule.proofs.Admitting.{admitted_ok, admitted_outside, admitted_outside_only}
 use Rattle.schedule.proofs.Sizes.{reachable_sized}
-use Rattle.schedule.specs.Books.{Book, book, book_begin, book_end, book_give_up, book_group_size, book_read, book_write, granted_cell, kept, read_as, size_over, with_state, write_as}
+use Rattle.schedule.specs.Books.{Book, book, book_begin, book_end, book_give_up, book_group_size, book_read, book_write, granted_cell, kept, read_as, with_state, write_as}
 use Rattle.schedule.specs.Cells.{record_of, released}
 use Rattle.schedule.specs.declared.answer.Refusal.{Refusal}
 use Rattle.schedule.specs.declared.answer.Refusal.TheVariants as refusal

@@ -1,7 +1,7 @@
 -- No request changes how many records or cells there are, so a reachable book has as many records as its size says.
 use Rattle.std.proofs.Common.{◌≡◌, ℕ, zero, suc, min, Bool, true, false, cond, leb, List, [], ◌∷◌, map, length, Some, None, Ok, Err, Option, Result, sym, refl, ap, ◌∙◌, length-set}
 use lib.ListN.{length-replicate}
-use Rattle.schedule.specs.Books.{Book, book_begin, book_end, book_give_up, book_read, book_write, carried, drafted, fresh_book, kept, size_over}
+use Rattle.schedule.specs.Books.{Book, carried, drafted, kept, size_over}
 use Rattle.schedule.specs.Cells.{fresh_record, record_of, released, stamped}
 use Rattle.schedule.specs.declared.answer.Refusal.{Refusal}
 use Rattle.schedule.specs.declared.answer.Refusal.TheVariants as refusal
@@ -19,7 +19,7 @@ use Rattle.schedule.specs.declared.verdict.Verdict.TheVariants as verdict
 use Rattle.schedule.specs.Jobs.{find, holds, vacant}
 use Rattle.schedule.specs.Reachable.{Reachable, Sized, after, later, opened}
 use Rattle.schedule.specs.States.{State, resizing}
-use Rattle.schedule.specs.Steps.{admitted, begin_in, begin_step, begin_with, end_on, end_step, ending, give_up_in, give_up_step, group_size_step, read_by, read_on, read_step, write_by, write_on, write_step}
+use Rattle.schedule.specs.Steps.{admitted, begin_in, begin_with, end_on, ending, give_up_in, group_size_step, read_by, read_on, write_by, write_on, write_step}
 use Rattle.schedule.specs.Verdicts.{May, read_verdict, write_verdict}
 use Rattle.std.proofs.lemmas.List.{length-map}
 use Rattle.waiting.specs.declared.class.Class.{Class}

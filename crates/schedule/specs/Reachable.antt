@@ -1,5 +1,5 @@
 -- The books that a fresh one can lead to.
-use Rattle.std.specs.Prelude.{◌≡◌, ℕ, List, length}
+use Rattle.std.specs.Prelude.{◌≡◌, List, length}
 use Rattle.schedule.specs.Books.{Book, book_begin, book_end, book_give_up, book_group_size, book_read, book_write, fresh_book, size_over}
 use Rattle.schedule.specs.declared.request.Request.{Request}
 use Rattle.schedule.specs.declared.request.Request.TheVariants as request

@@ -1,10 +1,9 @@
 -- A row at a number: what a lookup finds there, and that a put past the end changes nothing.
-use Rattle.std.proofs.Common.{◌≡◌, ℕ, ◌<◌, ◌≤◌, true, false, cond, ltb, List, length, Some, None, Ok, Err, Option, sym, ap, ◌∙◌, Bor, le-ltb, lt-ltb}
+use Rattle.std.proofs.Common.{◌≡◌, ℕ, ◌<◌, ◌≤◌, cond, List, length, Some, None, Ok, Err, Option, sym, ap, ◌∙◌, Bor, le-ltb, lt-ltb}
 use Rattle.std.proofs.lemmas.Option.{slice_get-get_or, slice_get_past}
 use Rattle.std.specs.List.{slice_get}
 use Rattle.std.specs.Option.{option_map, ok_or}
 use Rattle.std.specs.Slice.{IsGetResult}
-use Rattle.store.specs.declared.row.Outside.{Outside}
 use Rattle.store.specs.Rows.{cell_at, outside, put_answer}
 
 pub item_nth : {C : Type 0} (row : List C) (i : ℕ) (r : Option (Bor C)) → IsGetResult row i i r → option_map (λ x. x.now) r ≡ slice_get row i

@@ -12,8 +12,8 @@ use Rattle.schedule.specs.Verdicts.{May}
 use Rattle.std.proofs.lemmas.List.{drop_all, drop_more, take_all, take_more}
 use Rattle.theorem.proofs.EveryRun.{every_run, keeps_serializable}
 use Rattle.theorem.specs.Calls.{Extends, KeepsSerializableThrough, StartsSerializable, after_all, request_of}
-use Rattle.theorem.specs.Histories.{History, effects}
-use Rattle.theorem.specs.Theorem.{KeepsSerializable, Run, SerializableWithoutDeadlock, asked, opened, step}
+use Rattle.theorem.specs.Histories.{History}
+use Rattle.theorem.specs.Theorem.{KeepsSerializable, Run, asked, opened, step}
 use Rattle.waiting.specs.declared.party.Party.{Party}
 
 module _ (may : May) (irreflexive : (a : Party) → may a a ≡ false) (transitive : (a b c : Party) → may a b ≡ true → may b c ≡ true → may a c ≡ true) {C : Type 0} where

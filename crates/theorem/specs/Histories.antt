@@ -1,5 +1,5 @@
 -- What a history tells by itself: requests with their answers, the newest first, and no scheduler.
-use Rattle.std.specs.Prelude.{ℕ, zero, suc, max, Bool, true, false, cond, not, ◌&&◌, ◌||◌, List, [], ◌∷◌, ◌++◌, Some, None, Ok, Err, Option, ◌==◌}
+use Rattle.std.specs.Prelude.{ℕ, zero, suc, max, Bool, false, cond, not, ◌&&◌, ◌||◌, List, [], ◌∷◌, ◌++◌, Some, None, Ok, Err, Option, ◌==◌}
 use Rattle.schedule.specs.declared.answer.Reply.TheVariants as reply
 use Rattle.schedule.specs.declared.request.Event.{Event}
 use Rattle.schedule.specs.declared.request.Event.TheVariants as event

@@ -1,4 +1,4 @@
-use Rattle.std.proofs.Common.{◌≡◌, ℕ, ◌+◌, ◌^◌, ◌<◌, ◌≤◌, List, ◌∷◌, length, drop, refl, ap, ◌∙◌, arith}
+use Rattle.std.proofs.Common.{ℕ, ◌^◌, ◌<◌, ◌∷◌, drop, refl, ap, ◌∙◌, arith}
 use Rattle.answer_line.proofs.Backwards.{as_long, last_digit_put, one_digit_more, room_left}
 use Rattle.answer_line.proofs.line.put_number.Goals as goal
 use Rattle.std.proofs.lemmas.Fmt.{decimal_nonempty, length-decimal-le}

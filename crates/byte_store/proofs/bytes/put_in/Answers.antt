@@ -1,7 +1,7 @@
 use Rattle.std.proofs.Common.{◌≡◌, ◌*◌, ◌/◌, ◌<◌, ◌≤◌, length, set, ℤ, sym, refl, ap, ◌∙◌, arith, to_z-of_z}
 use Rattle.std.proofs.lemmas.List.{set_past}
 use Rattle.byte_store.proofs.bytes.put_in.Goals as goal
-use Rattle.byte_store.proofs.Numbering.{left_over_kept, number_of, numbers_length, numbers_set, put_number_past, put_number_within}
+use Rattle.byte_store.proofs.Numbering.{left_over_kept, number_of, numbers_set, put_number_past, put_number_within}
 use Rattle.store.proofs.Rows.{put_past, put_within}
 use Rattle.byte_store.specs.Numbers.{left_over, numbers, with_number}
 

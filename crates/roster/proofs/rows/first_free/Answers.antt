@@ -1,4 +1,4 @@
-use Rattle.std.proofs.Common.{None, sym, ◌∙◌, arith}
+use Rattle.std.proofs.Common.{None, sym, arith}
 use Rattle.schedule.specs.Jobs.{vacant}
 use Rattle.roster.proofs.Finds.{find_end, find_here, find_more, find_start}
 use Rattle.roster.proofs.rows.first_free.Goals as goal

@@ -1,4 +1,4 @@
-use Rattle.std.proofs.Common.{None, sym, ◌∙◌, arith}
+use Rattle.std.proofs.Common.{None, sym, arith}
 use Rattle.schedule.specs.Jobs.{holds}
 use Rattle.roster.proofs.Finds.{find_end, find_here, find_more, find_start}
 use Rattle.roster.proofs.rows.row_with.Goals as goal

@@ -11,10 +11,10 @@ returns g c =
     let may = g.W.WaitingRule.may rule in
     let irreflexive = g.met.W.WaitingRule.irreflexive rule in
     let transitive = g.met.W.WaitingRule.transitive rule in
-    let step = c.begin.ensures.answer-and-book-after in
+    let step = c.begin.ensures.answer_and_book_after in
     record {
-      answer-and-book-after = step;
-      rule-kept = c.begin.ensures.rule-kept;
-      refusal-changes-nothing = begin_refusal_keeps before after c.args.class c.begin.result step;
-      serializable-without-deadlock = begin_keeps may irreflexive transitive before after c.args.class c.begin.result step;
+      answer_and_book_after = step;
+      rule_kept = c.begin.ensures.rule_kept;
+      refusal_changes_nothing = begin_refusal_keeps before after c.args.class c.begin.result step;
+      serializable_without_deadlock = begin_keeps may irreflexive transitive before after c.args.class c.begin.result step;
     }

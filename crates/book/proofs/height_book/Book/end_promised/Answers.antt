@@ -11,10 +11,10 @@ returns g c =
     let may = g.W.WaitingRule.may rule in
     let irreflexive = g.met.W.WaitingRule.irreflexive rule in
     let transitive = g.met.W.WaitingRule.transitive rule in
-    let step = c.end.ensures.answer-and-book-after in
+    let step = c.end.ensures.answer_and_book_after in
     record {
-      answer-and-book-after = step;
-      rule-kept = c.end.ensures.rule-kept;
-      refusal-changes-nothing = end_refusal_keeps before after c.args.ticket c.end.result step;
-      serializable-without-deadlock = end_keeps may irreflexive transitive before after c.args.ticket c.end.result step;
+      answer_and_book_after = step;
+      rule_kept = c.end.ensures.rule_kept;
+      refusal_changes_nothing = end_refusal_keeps before after c.args.ticket c.end.result step;
+      serializable_without_deadlock = end_keeps may irreflexive transitive before after c.args.ticket c.end.result step;
     }

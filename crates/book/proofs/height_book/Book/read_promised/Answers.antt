@@ -13,12 +13,12 @@ returns g c =
     let transitive = g.met.W.WaitingRule.transitive rule in
     let t = c.args.ticket in
     let cell = c.args.cell in
-    let step = c.read.ensures.answer-and-book-after in
+    let step = c.read.ensures.answer_and_book_after in
     record {
-      answer-and-book-after = step;
-      rule-kept = c.read.ensures.rule-kept;
-      refusal-changes-nothing = read_refusal_keeps may before t cell after c.read.result step;
-      rejection-closes-that-job-alone = read_rejection_closes may before t cell after c.read.result step;
-      no-such-cell-exactly-outside = read_outside_exactly may before t cell after c.read.result step;
-      serializable-without-deadlock = read_keeps may irreflexive transitive before after t cell c.read.result step;
+      answer_and_book_after = step;
+      rule_kept = c.read.ensures.rule_kept;
+      refusal_changes_nothing = read_refusal_keeps may before t cell after c.read.result step;
+      rejection_closes_that_job_alone = read_rejection_closes may before t cell after c.read.result step;
+      no_such_cell_exactly_outside = read_outside_exactly may before t cell after c.read.result step;
+      serializable_without_deadlock = read_keeps may irreflexive transitive before after t cell c.read.result step;
     }

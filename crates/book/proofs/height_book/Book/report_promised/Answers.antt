@@ -7,7 +7,7 @@ returns g c =
     let self = c.args.self.now.engine in
     record {
       figures = c.report.ensures.figures;
-      begun-is-the-sum = c.report.ensures.begun-is-the-sum;
-      figures-as-told =
+      begun_is_the_sum = c.report.ensures.begun_is_the_sum;
+      figures_as_told =
           reports (g.W.WaitingRule.may self.rule) (book_of g.M.Store.row g.D.Store.row self) c.report.result c.report.ensures.figures;
     }

@@ -17,10 +17,10 @@ loop-request-preserved g c =
     let qs = c.args.requests.now in
     let i = c.loop-request.request-index in
     let q = c.request-item.result in
-    let step = c.submit.ensures.event-and-book-after in (
+    let step = c.submit.ensures.event_and_book_after in (
       goes_on_by_one may qs i first may' q c.submit.result _ _ (omega arith) c.request-item.is same step inv.0,
       after_one_more may qs i first may' q c.submit.result _ _ (omega arith) c.request-item.is same step inv.1,
-      c.submit.ensures.rule-kept ∙ inv.2,
+      c.submit.ensures.rule_kept ∙ inv.2,
     )
 
 pub returns : goal.returns
@@ -32,8 +32,8 @@ returns g c =
     let qs = c.args.requests.now in
     let i = c.loop-request.request-index in
     record {
-      book-after = after_none_left may qs i first _ (omega arith) inv.1;
-      rule-kept = inv.2;
-      serializable-without-deadlock =
+      book_after = after_none_left may qs i first _ (omega arith) inv.1;
+      rule_kept = inv.2;
+      serializable_without_deadlock =
           keeps_through may (g.met.W.WaitingRule.irreflexive rule) (g.met.W.WaitingRule.transitive rule) qs i first _ (omega arith) inv.0;
     }

@@ -4,10 +4,10 @@ use Rattle.theorem.proofs.Calling.{keeps}
 pub returns : goal.returns
 returns g c =
     let rule = c.args.self.now.engine.rule in
-    let step = c.submit.ensures.event-and-book-after in
+    let step = c.submit.ensures.event_and_book_after in
     record {
-      event-and-book-after = step;
-      rule-kept = c.submit.ensures.rule-kept;
-      serializable-without-deadlock =
+      event_and_book_after = step;
+      rule_kept = c.submit.ensures.rule_kept;
+      serializable_without_deadlock =
           keeps (g.W.WaitingRule.may rule) (g.met.W.WaitingRule.irreflexive rule) (g.met.W.WaitingRule.transitive rule) _ _ c.args.request c.submit.result step;
     }

@@ -13,12 +13,12 @@ returns g c =
     let transitive = g.met.W.WaitingRule.transitive rule in
     let t = c.args.ticket in
     let cell = c.args.cell in
-    let step = c.write.ensures.answer-and-book-after in
+    let step = c.write.ensures.answer_and_book_after in
     record {
-      answer-and-book-after = step;
-      rule-kept = c.write.ensures.rule-kept;
-      refusal-changes-nothing = write_refusal_keeps may before t cell after c.args.new c.write.result step;
-      rejection-closes-that-job-alone = write_rejection_closes may before t cell after c.args.new c.write.result step;
-      no-such-cell-exactly-outside = write_outside_exactly may before t cell after c.args.new c.write.result step;
-      serializable-without-deadlock = write_keeps may irreflexive transitive before after t cell c.args.new c.write.result step;
+      answer_and_book_after = step;
+      rule_kept = c.write.ensures.rule_kept;
+      refusal_changes_nothing = write_refusal_keeps may before t cell after c.args.new c.write.result step;
+      rejection_closes_that_job_alone = write_rejection_closes may before t cell after c.args.new c.write.result step;
+      no_such_cell_exactly_outside = write_outside_exactly may before t cell after c.args.new c.write.result step;
+      serializable_without_deadlock = write_keeps may irreflexive transitive before after t cell c.args.new c.write.result step;
     }
