@@ -1,5 +1,5 @@
 -- The front of a line, byte by byte.
-use Rattle.std.proofs.Common.{◌≡◌, ℕ, ◌+◌, ◌<◌, ◌≤◌, List, [], ◌∷◌, ◌++◌, length, take, set, sym, ◌∙◌, add-one, arith, length-append, length-take-le, take_all, take-suc-set}
+use Rattle.std.proofs.Common.{◌≡◌, ℕ, ◌+◌, ◌<◌, List, [], ◌∷◌, ◌++◌, length, take, set, sym, ◌∙◌, add-one, arith, length-append, length-take-le, take_all, take-suc-set}
 use Rattle.std.proofs.lemmas.List.{take-append-le}
 
 module _ (bytes : List ℕ) (kept x : ℕ) where

@@ -1,7 +1,7 @@
 -- Pieces of an input one after the other, and what may be forgotten of a long line.
 use Rattle.std.proofs.Common.{◌≡◌, ℕ, zero, suc, ◌+◌, ◌<◌, ◌≤◌, Bool, true, false, cond, eqb, List, [], ◌∷◌, ◌++◌, length, get_or, take, sym, refl, ap, ◌∙◌, subst, append_assoc, append-nil, arith, lit≤}
 use Rattle.std.proofs.lemmas.List.{take_all, take_more, take-take}
-use Rattle.transcript.specs.Lines.{AllAnswered, Answering, Completes, Finished, Goes_on, Taken, Takes, Told, last_line, lines_after}
+use Rattle.transcript.specs.Lines.{AllAnswered, Answering, Completes, Finished, Goes_on, Taken, Takes, last_line, lines_after}
 
 -- a front is as good as the whole for the front of what it is the start of
 front_extended : (n : ℕ) (x ys : List ℕ) → take n (take n x ++ ys) ≡ take n (x ++ ys)

@@ -15,7 +15,6 @@ module _ (may : May) (irreflexive : (a : Party) → may a a ≡ false) (transiti
   runs_still b b' e = subst (λ (x : Book ℤ). RunsOn may b x) (sym e) (λ first h r. (h, r, every_run may irreflexive transitive first h b r))
 
   by_request : (b b' : Book ℤ) (q : Request ℤ) → KeepsSerializable may (step may b q).0 b b' → RunsOn may b b'
-  unfolding KeepsSerializable
   by_request b b' q k first h r = let p = k first h r in (_, p.1, p.2)
 
   by_saying : (line : List ℕ) (b b' : Book ℤ) (said : Result (Request ℤ) ℕ) → Reads line said → KeepsSerializableByLine may line b b' → RunsOn may b b'

@@ -1,4 +1,4 @@
-use Rattle.std.proofs.Common.{ℕ, ◌-◌, take, vec_items, sym, refl, ◌∙◌, subst, append-nil}
+use Rattle.std.proofs.Common.{ℕ, ◌-◌, take, vec_items, refl, subst}
 use native.Mathlib.Nat.{sub-zero}
 use Rattle.transcript.proofs.console.Console.answer_front.Goals as goal
 use Rattle.transcript.proofs.Pieces.{taken_same}
@@ -9,11 +9,11 @@ use Rattle.transcript.specs.Fronts.{front_bytes}
 pub returns : goal.returns
 returns g c =
     let before = contents g.M.Store.row g.D.Store.row c.args.self.now.book in
-    let after = contents g.M.Store.row g.D.Store.row c.answer-line.new.book in
+    let after = contents g.M.Store.row g.D.Store.row c.answer_line.new.book in
     let rule = c.args.self.now.book.engine.rule in
     let may = g.W.WaitingRule.may rule in
     let front = c.args.self.now.front in
-    let a = c.in-Ok.ensures.answer-and-book-after in
+    let a = c.in-Ok.ensures.answer_and_book_after in
     record {
       told = (
         record {
@@ -23,21 +23,21 @@ returns g c =
         },
         refl,
       );
-      rule-kept = c.answer-line.ensures.rule-kept;
-      serializable-without-deadlock =
+      rule_kept = c.answer_line.ensures.rule_kept;
+      serializable_without_deadlock =
           runs_by_line may (g.met.W.WaitingRule.irreflexive rule) (g.met.W.WaitingRule.transitive rule) (take (front.kept - 0) front.bytes) before a.0 after a.2
-          (c.in-Ok.ensures.serializable-without-deadlock refl);
+          (c.in-Ok.ensures.serializable_without_deadlock refl);
     }
 
-pub returns-in-default : goal.returns-in-default
-returns-in-default g c =
+pub returns-in_default : goal.returns-in_default
+returns-in_default g c =
     let before = contents g.M.Store.row g.D.Store.row c.args.self.now.book in
-    let after = contents g.M.Store.row g.D.Store.row c.answer-line.new.book in
+    let after = contents g.M.Store.row g.D.Store.row c.answer_line.new.book in
     let rule = c.args.self.now.book.engine.rule in
     let may = g.W.WaitingRule.may rule in
-    let a = c.in-default.ensures.answer-and-book-after in
+    let a = c.in_default.ensures.answer_and_book_after in
     record {
-      told = taken_same (AnswersLine may) before (front_bytes c.args.self.now.front) (vec_items c.args.out.now) after (vec_items c.answer-line.new.out) a.1 a.0;
-      rule-kept = c.answer-line.ensures.rule-kept;
-      serializable-without-deadlock = runs_still may (g.met.W.WaitingRule.irreflexive rule) (g.met.W.WaitingRule.transitive rule) before after a.1;
+      told = taken_same (AnswersLine may) before (front_bytes c.args.self.now.front) (vec_items c.args.out.now) after (vec_items c.answer_line.new.out) a.1 a.0;
+      rule_kept = c.answer_line.ensures.rule_kept;
+      serializable_without_deadlock = runs_still may (g.met.W.WaitingRule.irreflexive rule) (g.met.W.WaitingRule.transitive rule) before after a.1;
     }

@@ -25,8 +25,8 @@ loop-i-preserved g c =
     let inv = c.loop-i.invariant in (
       taken_one_more (AnswersLine (g.W.WaitingRule.may rule)) _ _ (AnswersLine (g.W.WaitingRule.may later)) same c.args.piece.now _ _ _ _ _ _ _ c.loop-i.i (omega arith) inv.0
           c.in-Ok.ensures.taken,
-      c.take-byte.ensures.rule-kept ∙ inv.1,
-      runs_both (g.W.WaitingRule.may rule) (g.W.WaitingRule.may later) _ _ _ (ap g.W.WaitingRule.may inv.1) inv.2 c.take-byte.ensures.serializable-without-deadlock,
+      c.take_byte.ensures.rule_kept ∙ inv.1,
+      runs_both (g.W.WaitingRule.may rule) (g.W.WaitingRule.may later) _ _ _ (ap g.W.WaitingRule.may inv.1) inv.2 c.take_byte.ensures.serializable_without_deadlock,
     )
 
 pub returns : goal.returns
@@ -34,13 +34,13 @@ returns g c =
     let answers = AnswersLine (g.W.WaitingRule.may c.args.self.now.book.engine.rule) in
     let inv = c.loop-i.invariant in
     let taken = taken_all answers _ _ c.args.piece.now _ _ _ _ c.loop-i.i c.loop-i-test.false inv.0 in
-    record { taken = taken; transcript-so-far = goes_on answers _ _ _ _ _ _ _ taken; rule-kept = inv.1; serializable-without-deadlock = inv.2 }
+    record { taken = taken; transcript_so_far = goes_on answers _ _ _ _ _ _ _ taken; rule_kept = inv.1; serializable_without_deadlock = inv.2 }
 
-pub returns-in-default : goal.returns-in-default
-returns-in-default g c =
+pub returns-in_default : goal.returns-in_default
+returns-in_default g c =
     let answers = AnswersLine (g.W.WaitingRule.may c.args.self.now.book.engine.rule) in
     let later = c.loop-i.self.book.engine.rule in
     let inv = c.loop-i.invariant in
     let same = ap (λ (m : May). AnswersLine m) (ap g.W.WaitingRule.may inv.1) in
-    let taken = taken_no_more answers _ _ (AnswersLine (g.W.WaitingRule.may later)) same (take c.loop-i.i c.args.piece.now) _ _ _ _ _ _ _ inv.0 c.in-default.ensures.taken in
-    record { taken = taken; transcript-so-far = goes_on answers _ _ _ _ _ _ _ taken; rule-kept = c.take-byte.ensures.rule-kept ∙ inv.1; serializable-without-deadlock = runs_both (g.W.WaitingRule.may c.args.self.now.book.engine.rule) (g.W.WaitingRule.may later) _ _ _ (ap g.W.WaitingRule.may inv.1) inv.2 c.take-byte.ensures.serializable-without-deadlock }
+    let taken = taken_no_more answers _ _ (AnswersLine (g.W.WaitingRule.may later)) same (take c.loop-i.i c.args.piece.now) _ _ _ _ _ _ _ inv.0 c.in_default.ensures.taken in
+    record { taken = taken; transcript_so_far = goes_on answers _ _ _ _ _ _ _ taken; rule_kept = c.take_byte.ensures.rule_kept ∙ inv.1; serializable_without_deadlock = runs_both (g.W.WaitingRule.may c.args.self.now.book.engine.rule) (g.W.WaitingRule.may later) _ _ _ (ap g.W.WaitingRule.may inv.1) inv.2 c.take_byte.ensures.serializable_without_deadlock }

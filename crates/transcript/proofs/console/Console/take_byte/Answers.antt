@@ -7,23 +7,23 @@ use Rattle.transcript.specs.Answering.{AnswersLine, contents}
 use Rattle.transcript.specs.Fronts.{front_bytes}
 use Rattle.transcript.specs.Lines.{Takes}
 
-pub returns-then-is-newline : goal.returns-then-is-newline
-returns-then-is-newline g c =
+pub returns-then-is_newline : goal.returns-then-is_newline
+returns-then-is_newline g c =
     let before = contents g.M.Store.row g.D.Store.row c.args.self.now.book in
-    let after = contents g.M.Store.row g.D.Store.row c.answer-front.new.self.book in
+    let after = contents g.M.Store.row g.D.Store.row c.answer_front.new.self.book in
     let may = g.W.WaitingRule.may c.args.self.now.book.engine.rule in
     let line = front_bytes c.args.self.now.front in
     let byte = c.args.byte in
-    let a = c.in-ok-answer-front.ensures.told in
+    let a = c.in_ok-answer_front.ensures.told in
     record {
       taken = record {
         texts = a.0.text;
         appended = a.0.appended;
         takes = subst (λ (l : List ℕ). Takes (AnswersLine may) before line (byte ∷ []) a.0.text after l) (sym a.1)
-            (takes_newline (AnswersLine may) before line byte a.0.text after (sym c.is-newline.ensures.byte-10 ∙ c.if-is-newline.true) a.0.answered);
+            (takes_newline (AnswersLine may) before line byte a.0.text after (sym c.is_newline.ensures.byte_10 ∙ c.if-is_newline.true) a.0.answered);
       };
-      rule-kept = c.answer-front.ensures.rule-kept;
-      serializable-without-deadlock = c.answer-front.ensures.serializable-without-deadlock;
+      rule_kept = c.answer_front.ensures.rule_kept;
+      serializable_without_deadlock = c.answer_front.ensures.serializable_without_deadlock;
     }
 
 pub returns : goal.returns
@@ -38,8 +38,8 @@ returns g c =
         texts = [];
         appended = sym (append-nil (vec_items c.args.out.now));
         takes = subst (λ (l : List ℕ). Takes (AnswersLine may) before line (byte ∷ []) [] before l) (sym c.keep.ensures.bytes_after)
-            (takes_kept (AnswersLine may) (same_front may) before line byte (sym c.is-newline.ensures.byte-10 ∙ c.if-is-newline.false));
+            (takes_kept (AnswersLine may) (same_front may) before line byte (sym c.is_newline.ensures.byte_10 ∙ c.if-is_newline.false));
       };
-      rule-kept = refl;
-      serializable-without-deadlock = runs_still may (g.met.W.WaitingRule.irreflexive rule) (g.met.W.WaitingRule.transitive rule) before before refl;
+      rule_kept = refl;
+      serializable_without_deadlock = runs_still may (g.met.W.WaitingRule.irreflexive rule) (g.met.W.WaitingRule.transitive rule) before before refl;
     }
