@@ -21,7 +21,7 @@ fn gives_the_answers(
     if console.feed(first, &mut out).is_err() || console.feed(second, &mut out).is_err() {
         return false;
     }
-    console.finish(&mut out).is_ok() && out.as_slice() == ANSWERS
+    console.finish(&mut out).is_ok() && out.as_slice() == ANSWERS.as_slice()
 }
 
 #[test]
