@@ -11,7 +11,7 @@ use Rattle.schedule.specs.declared.answer.Refusal.{Refusal}
 use Rattle.schedule.specs.declared.answer.Refusal.TheVariants as refusal
 use Rattle.schedule.specs.declared.answer.Rejection.{Rejection}
 use Rattle.schedule.specs.declared.answer.Rejection.TheVariants as rejection
-use Rattle.std.specs.List.{AllByRecursion as All}
+use Rattle.std.specs.List.{AllByRecursion}
 
 abbrev letter : Answer → ℕ
 letter (answer.Begun ticket group place) = 84
@@ -64,7 +64,7 @@ letter_goes_on (answer.Refused why) e = omega arith
 letter_goes_on (answer.NoRequest place) e = omega arith
 
 pub one_line : (a : Answer) → OneLine a
-one_line a = subst (All (λ byte. byte ≡ 10 → ⊥)) (sym (text_is a)) (letter_goes_on a, spaced_goes_on (numbers a))
+one_line a = subst (AllByRecursion (λ byte. byte ≡ 10 → ⊥)) (sym (text_is a)) (letter_goes_on a, spaced_goes_on (numbers a))
 
 -- ---- back from the letter and the numbers to the answer ----
 
@@ -139,7 +139,7 @@ height_short : (z : ℤ) → mag z < 2 ^ 31 → Short z
 height_short (pos n) h = omega arith
 height_short (negsuc n) h = omega arith
 
-numbers_short : (a : Answer) → InRange a → All Short (numbers a)
+numbers_short : (a : Answer) → InRange a → AllByRecursion Short (numbers a)
 numbers_short (answer.Begun ticket group place) h = (omega arith, (omega arith, (omega arith, tt)))
 numbers_short (answer.Cell height) h = (height_short height h, tt)
 numbers_short answer.Written h = tt

@@ -3,7 +3,7 @@ use Rattle.std.proofs.Common.{◌≡◌, ℕ, zero, suc, ◌/◌, ◌%◌, ◌^�
 use Rattle.std.proofs.lemmas.Fmt.{decimal_injective}
 use Rattle.std.proofs.ByRecursion.{All-append, All-weaker}
 use Rattle.std.proofs.lemmas.Bool.Decides.{nat_tests}
-use Rattle.std.specs.List.{AllByRecursion as All}
+use Rattle.std.specs.List.{AllByRecursion}
 use Rattle.std.specs.Fmt.{digits, digit_glyph, signed_decimal, digits_onto}
 
 -- a byte that a number is written with, 0 to 9 or a minus, and so neither a space nor the end of a line
@@ -16,21 +16,21 @@ Digit byte = 48 ≤ byte
 glyph_digit : (n : ℕ) → Digit (digit_glyph false (n % 10))
 glyph_digit n = grind (arith, nat_tests)
 
-spelled_digits : (k n : ℕ) (after : List ℕ) → All Digit after → All Digit (digits_onto k 10 false n after)
+spelled_digits : (k n : ℕ) (after : List ℕ) → AllByRecursion Digit after → AllByRecursion Digit (digits_onto k 10 false n after)
 spelled_digits zero n after h = h
 spelled_digits (suc k) n after h =
-    let more : All Digit (digit_glyph false (n % 10) ∷ after) = (glyph_digit n, h) in
-    elim (eqb (n / 10) 0) as (λ b. All Digit (cond b (digit_glyph false (n % 10) ∷ after) (digits_onto k 10 false (n / 10) (digit_glyph false (n % 10) ∷ after))))
+    let more : AllByRecursion Digit (digit_glyph false (n % 10) ∷ after) = (glyph_digit n, h) in
+    elim (eqb (n / 10) 0) as (λ b. AllByRecursion Digit (cond b (digit_glyph false (n % 10) ∷ after) (digits_onto k 10 false (n / 10) (digit_glyph false (n % 10) ∷ after))))
     [ true ↦ more | false ↦ spelled_digits k (n / 10) (digit_glyph false (n % 10) ∷ after) more ]
 
-decimal_digits : (n : ℕ) → All Digit (decimal n)
+decimal_digits : (n : ℕ) → AllByRecursion Digit (decimal n)
 unfolding digits
 decimal_digits n = spelled_digits 64 n [] tt
 
-decimal_figures : (n : ℕ) → All Figure (decimal n)
+decimal_figures : (n : ℕ) → AllByRecursion Figure (decimal n)
 decimal_figures n = All-weaker Digit Figure (λ byte h. omega arith) (decimal n) (decimal_digits n)
 
-signed_figures : (z : ℤ) → All Figure (signed_decimal z)
+signed_figures : (z : ℤ) → AllByRecursion Figure (signed_decimal z)
 signed_figures (pos n) = decimal_figures n
 signed_figures (negsuc n) = (omega arith, decimal_figures (suc n))
 
@@ -46,7 +46,7 @@ pub tail_eq : {x y : ℕ} {xs ys : List ℕ} → x ∷ xs ≡ y ∷ ys → xs �
 tail_eq e = cc
 
 no_minus : (n : ℕ) (xs : List ℕ) → decimal n ≡ 45 ∷ xs → ⊥
-no_minus n xs e = let h = (subst (All Digit) e (decimal_digits n)).0 in omega arith
+no_minus n xs e = let h = (subst (AllByRecursion Digit) e (decimal_digits n)).0 in omega arith
 
 same_number : (y z : ℤ) → Short y → Short z → signed_decimal y ≡ signed_decimal z → y ≡ z
 same_number (pos m) (pos n) p q e = ap pos (decimal_injective m n p q e)
@@ -71,7 +71,7 @@ stops [] = tt
 stops (z ∷ zs) = omega arith
 
 -- where the figures end
-split : (u v s t : List ℕ) → All Figure u → All Figure v → Stops s → Stops t → u ++ s ≡ v ++ t → (u ≡ v) × (s ≡ t)
+split : (u v s t : List ℕ) → AllByRecursion Figure u → AllByRecursion Figure v → Stops s → Stops t → u ++ s ≡ v ++ t → (u ≡ v) × (s ≡ t)
 split [] [] s t p q a b e = (refl, e)
 split [] (y ∷ v) s t p q a b e = let h = subst Stops e a in let k = q.0 in absurd (omega arith)
 split (x ∷ u) [] s t p q a b e = let h = subst Stops (sym e) b in let k = p.0 in absurd (omega arith)
@@ -82,7 +82,7 @@ split (x ∷ u) (y ∷ v) s t p q a b e =
 empty_not : {x : ℕ} {xs : List ℕ} → [] ≡ x ∷ xs → ⊥
 empty_not e = let z : ◌≡◌ {A = ℕ} 0 1 = cc in omega arith
 
-pub same_numbers : (ys zs : List ℤ) → All Short ys → All Short zs → spaced ys ≡ spaced zs → ys ≡ zs
+pub same_numbers : (ys zs : List ℤ) → AllByRecursion Short ys → AllByRecursion Short zs → spaced ys ≡ spaced zs → ys ≡ zs
 same_numbers [] [] p q e = refl
 same_numbers [] (z ∷ zs) p q e = absurd (empty_not e)
 same_numbers (y ∷ ys) [] p q e = absurd (empty_not (sym e))
@@ -91,7 +91,7 @@ same_numbers (y ∷ ys) (z ∷ zs) p q e =
     (λ i. same_number y z p.0 q.0 parts.0 i ∷ same_numbers ys zs p.1 q.1 parts.1 i)
 
 -- none of their bytes ends a line
-pub spaced_goes_on : (zs : List ℤ) → All (λ byte. byte ≡ 10 → ⊥) (spaced zs)
+pub spaced_goes_on : (zs : List ℤ) → AllByRecursion (λ byte. byte ≡ 10 → ⊥) (spaced zs)
 spaced_goes_on [] = tt
 spaced_goes_on (z ∷ zs) = (
   (λ e. omega arith),

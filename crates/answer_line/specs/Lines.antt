@@ -5,11 +5,11 @@ use Rattle.answer_line.specs.declared.answer.Answer.{Answer}
 use Rattle.answer_line.specs.declared.answer.Answer.TheVariants as answer
 use Rattle.answer_line.specs.Text.{text}
 use Rattle.schedule.specs.Answers.{rejection_detail}
-use Rattle.std.specs.List.{AllByRecursion as All}
+use Rattle.std.specs.List.{AllByRecursion}
 
 -- the text has no byte 10, which ends a line
 abbrev pub OneLine : Answer → Type 0
-OneLine a = All (λ byte. byte ≢ 10) (text a)
+OneLine a = AllByRecursion (λ byte. byte ≢ 10) (text a)
 
 -- the values of a u32
 abbrev pub Number : ℕ → Type 0

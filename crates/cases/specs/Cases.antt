@@ -3,7 +3,7 @@
 use Rattle.std.specs.Prelude.{List, [], ◌∷◌, ◌++◌}
 use Rattle.cases.specs.Lines.{Holds, Line, begin_refused, begins, end_refused, ends, first_begins, gives, gives_up, granted, line, line_leaving, may_not_wait_for, no_such_cell, reads, size_refused, size_taken, too_late_for, waits_for, writes}
 use Rattle.schedule.specs.declared.answer.Refusal.TheVariants.{BookFull, JobWaits, NoSuchClass}
-use Rattle.std.specs.List.{AllByRecursion as All}
+use Rattle.std.specs.List.{AllByRecursion}
 
 -- The table. Where a comment says that a request gets a number, it is that of the refusal or the rejection.
 abbrev pub cases : List Line
@@ -36,4 +36,4 @@ cases =
 
 -- each line of the table holds
 unfoldable pub EveryLineHolds : Type 0
-EveryLineHolds = All Holds cases
+EveryLineHolds = AllByRecursion Holds cases

@@ -14,7 +14,7 @@ use Rattle.std.proofs.lemmas.Bool.Decides.{nat_tests}
 use Rattle.std.proofs.str.Laws.{order as either_way}
 use Rattle.std.specs.Str.Parse.{digits_value, digits_value_after}
 use Rattle.std.specs.Int.{IsInRange}
-use Rattle.std.specs.Char.{digit_value as digitValue}
+use Rattle.std.specs.Char.{digit_value}
 
 -- what the scan needs of a range
 record Bounds (r : Range) : Type 0 where
@@ -27,16 +27,16 @@ bounds Number = record { start = omega arith; some = omega arith; fits = omega a
 bounds Height = record { start = omega arith; some = omega arith; fits = omega arith }
 bounds Depth = record { start = omega arith; some = omega arith; fits = omega arith }
 
-digit_value : (b : ℕ) → 48 ≤ b → b ≤ 57 → digitValue b ≡ b - 48
-digit_value b h l = grind (arith, nat_tests)
+digit_value_is : (b : ℕ) → 48 ≤ b → b ≤ 57 → digit_value b ≡ b - 48
+digit_value_is b h l = grind (arith, nat_tests)
 
 digits_value_after_ge : (n : ℕ) (ds : List ℕ) → n ≤ digits_value_after 10 n ds
 digits_value_after_ge n [] = le_refl n
-digits_value_after_ge n (c ∷ cs) = omega (arith, digits_value_after_ge (n * 10 + digitValue c) cs)
+digits_value_after_ge n (c ∷ cs) = omega (arith, digits_value_after_ge (n * 10 + digit_value c) cs)
 
 value_append : (n : ℕ) (xs ys : List ℕ) → digits_value_after 10 n (xs ++ ys) ≡ digits_value_after 10 (digits_value_after 10 n xs) ys
 value_append n [] ys = refl
-value_append n (x ∷ xs) ys = value_append (n * 10 + digitValue x) xs ys
+value_append n (x ∷ xs) ys = value_append (n * 10 + digit_value x) xs ys
 
 -- digits after a front make its number no less
 value_front : (xs ys : List ℕ) → digits_value 10 xs ≤ digits_value 10 (xs ++ ys)
@@ -135,7 +135,7 @@ module _ {range : Range} {xs : List ℕ} {n v b : ℕ} (w : Written range xs n v
             let e = ap (digits_value 10) front in
             let p = digits_value_push 10 (take n xs) b in
             let u = value_written in
-            let d = digit_value b dig.0 dig.1 in
+            let d = digit_value_is b dig.0 dig.1 in
             omega (arith, reads.1);
       }
 
