@@ -1,11 +1,11 @@
 #!/usr/bin/env bash
 # Tries what no contract can say of the console: that an answer is written before it waits for more input, that answers are
 # batched while input is at hand, that its memory stays bounded, and how it ends at an error or a closed pipe.
-# Usage: tests/console.sh [PROGRAM]      (target/bin/console, which `rt check console` makes)
+# Usage: tests/console.sh [PROGRAM]      (crates/console/out/console, which `rt run` in crates/console makes)
 set -u
 cd "$(dirname "$0")/.."
-program=${1:-target/bin/console}
-[ -x "$program" ] || { echo "no program at $program: run 'rt check console' first" >&2; exit 2; }
+program=${1:-crates/console/out/console}
+[ -x "$program" ] || { echo "no program at $program: run 'rt run' in crates/console first" >&2; exit 2; }
 work=$(mktemp -d)
 trap 'rm -rf "$work"' EXIT
 failed=0

@@ -31,6 +31,8 @@ BY_HAND = {
     "getD-mapped": "get_or_mapped",
     "getD-set-default": "get_or_set_default",
     "valueAfter-ge": "digits_value_after_ge",
+    # port.py takes it for a name of the library's
+    "Goes_on": "GoesOn",
 }
 NAME = re.compile(r"""[^\s(){}\[\].;,@`"«»:]+""")
 OWN_FORM = re.compile(r"[A-Za-z][A-Za-z0-9_'₁₂]*(?:-[A-Za-z0-9][A-Za-z0-9_'₁₂]*)+[⁺⁻]?")

@@ -1,11 +1,10 @@
 -- Signed numbers of 32 bits in bytes, four to a number, the highest byte first.
 use Rattle.std.specs.Prelude.{ℕ, ◌+◌, ◌*◌, ◌/◌, ◌%◌, cond, List, [], ◌∷◌, length, drop, ℤ, nat_lt, slice_set}
-use Rattle.std.specs.Int.{w32}
-use Rattle.std.proofs.Common.{of_z, to_z}
+use Rattle.std.specs.Int.{cast_signed, cast_unsigned, w32}
 
 -- the number in four bytes: of 2 ^ 31 and above they stand for a negative one (two's complement)
 abbrev pub number : ℕ → ℕ → ℕ → ℕ → ℤ
-number a b c d = to_z w32 (a * 16777216 + b * 65536 + c * 256 + d)
+number a b c d = cast_signed w32 (a * 16777216 + b * 65536 + c * 256 + d)
 
 -- the numbers in a row of bytes; up to three bytes left over at the end are part of none
 abbrev pub numbers : List ℕ → List ℤ
@@ -26,7 +25,7 @@ with_four bytes at a b c d = slice_set (slice_set (slice_set (slice_set bytes at
 -- the bytes with the four from `at` on those of a number, the highest first
 abbrev pub with_number : List ℕ → ℕ → ℤ → List ℕ
 with_number bytes at z =
-    with_four bytes at (of_z w32 z / 16777216 % 256) (of_z w32 z / 65536 % 256) (of_z w32 z / 256 % 256) (of_z w32 z % 256)
+    with_four bytes at (cast_unsigned w32 z / 16777216 % 256) (cast_unsigned w32 z / 65536 % 256) (cast_unsigned w32 z / 256 % 256) (cast_unsigned w32 z % 256)
 
 -- the bytes after a put of number i: past the last number nothing changes
 abbrev pub put_number : List ℕ → ℕ → ℤ → List ℕ

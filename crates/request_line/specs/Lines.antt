@@ -23,8 +23,8 @@ Fits (End ticket) = NumberFits ticket
 Fits (GiveUp ticket) = NumberFits ticket
 Fits (GroupSize size) = NumberFits size
 
--- the line that a request shows: a letter and its words, parted by one space each; decimal and signed write numbers with
--- no leading zero
+-- the line that a request shows: a letter and its words, parted by one space each; decimal and signed_decimal write
+-- numbers with no leading zero
 abbrev pub shown : Request ℤ → List ℕ
 shown (Begin class) = codes "B " ++ decimal class
 shown (Read ticket cell) = codes "R " ++ (decimal ticket ++ (codes " " ++ decimal cell))

@@ -18,7 +18,7 @@ pub trait Store {
     fn get(&self, i: usize) -> Result<Self::Cell, Outside>
         ensures cell_of_row { result ≡ cell_at (row self.now) i };
 
-    // Past the end `set` is the row itself: a put that says 'outside' changes nothing.
+    // Past the end `slice_set` is the row itself: a put that says 'outside' changes nothing.
     fn put(&mut self, i: usize, cell: Self::Cell) -> Result<(), Outside>
         ensures answer { result ≡ put_answer (row self.old) i }
         ensures row_after { row self.new ≡ slice_set (row self.old) i cell };

@@ -66,15 +66,15 @@ extends_by [] h h' q e s x = (e, s, ap (λ l. e ∷ l) x)
 extends_by (p ∷ qs) h h' q e s x = (x.0, x.1, extends_by qs (x.0 ∷ h) h' q e s x.2)
 
 -- what a loop over requests keeps: the run so far
-abbrev pub Goes_on : {C : Type 0} → May → List (Request C) → Book C → Book C → Type 0
-Goes_on {C = C} may qs before after = (first : List C) (h : History C) → Run may first h before → (h' : History C) × Extends qs h h' × Run may first h' after
+abbrev pub GoesOn : {C : Type 0} → May → List (Request C) → Book C → Book C → Type 0
+GoesOn {C = C} may qs before after = (first : List C) (h : History C) → Run may first h before → (h' : History C) × Extends qs h h' × Run may first h' after
 
-pub goes_on_by_none : {C : Type 0} (may : May) (b : Book C) → Goes_on may [] b b
+pub goes_on_by_none : {C : Type 0} (may : May) (b : Book C) → GoesOn may [] b b
 goes_on_by_none may b first h r = (h, refl, r)
 
 module _ {C : Type 0} (may : May) (qs : List (Request C)) (i : ℕ) (b : Book C) where
   pub goes_on_by_one : (may' : May) (q : Request C) (e : Event C) (x y : Book C) → i < length qs → q ≡ get_or qs i q → may' ≡ may → step may' x q ≡ (e, y)
-      → Goes_on may (take i qs) b x → Goes_on may (take (i + 1) qs) b y
+      → GoesOn may (take i qs) b x → GoesOn may (take (i + 1) qs) b y
   goes_on_by_one may' q e x y l at same s r first h run =
       let p = r first h run in
       let s' : step may x q ≡ (e, y) = ap (λ (m : May). step m x q) (sym same) ∙ s in
@@ -99,7 +99,7 @@ module _ {C : Type 0} (may : May) (qs : List (Request C)) (i : ℕ) (b : Book C)
   after_none_left x l r = r ∙ ap (after_all may x) (drop_all i qs l)
 
 pub keeps_through : (may : May) → ((a : Party) → may a a ≡ false) → ((a b c : Party) → may a b ≡ true → may b c ≡ true → may a c ≡ true)
-    → {C : Type 0} (qs : List (Request C)) (i : ℕ) (b x : Book C) → length qs ≤ i → Goes_on may (take i qs) b x → KeepsSerializableThrough may qs b x
+    → {C : Type 0} (qs : List (Request C)) (i : ℕ) (b x : Book C) → length qs ≤ i → GoesOn may (take i qs) b x → KeepsSerializableThrough may qs b x
 keeps_through may irreflexive transitive {C} qs i b x l r first h run =
     let p = r first h run in (
       p.0,

@@ -99,7 +99,7 @@ module _ {C : Type 0} where
       let h = or_parts (eqb cell q) (touches xs q) e in
       row_after_untouched xs (set row cell c) q h.1 ∙ nth_set_other row cell c q (λ p. eqb-false cell q h.0 (sym p))
 
-  -- reads are as right on another row that is alike wherever the accesses_of touch
+  -- reads are as right on another row that is alike wherever the accesses touch
   pub right_alike : (xs : List (Access C)) (row row' : List C) → ((q : ℕ) → touches xs q ≡ true → slice_get row q ≡ slice_get row' q)
       → ReadsRight row xs → ReadsRight row' xs
   right_alike [] row row' h r = tt

@@ -1,7 +1,7 @@
 -- Pieces of an input one after the other, and what may be forgotten of a long line.
 use Rattle.std.proofs.Common.{◌≡◌, ℕ, zero, suc, ◌+◌, ◌<◌, ◌≤◌, Bool, true, false, cond, eqb, List, [], ◌∷◌, ◌++◌, length, get_or, take, sym, refl, ap, ◌∙◌, subst, append_assoc, append-nil, arith, lit≤}
 use Rattle.std.proofs.lemmas.List.{take_all, take_more, take-take}
-use Rattle.transcript.specs.Lines.{AllAnswered, Answering, Completes, Finished, Goes_on, Taken, Takes, last_line, lines_after}
+use Rattle.transcript.specs.Lines.{AllAnswered, Answering, Completes, Finished, GoesOn, Taken, Takes, last_line, lines_after}
 
 -- a front is as good as the whole for the front of what it is the start of
 front_extended : (n : ℕ) (x ys : List ℕ) → take n (take n x ++ ys) ≡ take n (x ++ ys)
@@ -88,7 +88,7 @@ module _ {B : Type 0} (Answers : Answering B) (b : B) (line : List ℕ) where
         takes = takes_both Answers b line piece s.texts b₁ line₁ piece₁ t.texts b₂ line₂ s.takes t.takes;
       }
 
-  pub goes_on : (piece told : List ℕ) (b₁ : B) (line₁ told₁ : List ℕ) → Taken Answers b line piece told b₁ line₁ told₁ → Goes_on Answers b line piece told b₁ line₁ told₁
+  pub goes_on : (piece told : List ℕ) (b₁ : B) (line₁ told₁ : List ℕ) → Taken Answers b line piece told b₁ line₁ told₁ → GoesOn Answers b line piece told b₁ line₁ told₁
   goes_on piece told b₁ line₁ told₁ t b₀ input texts s =
       (t.texts, t.appended, takes_both Answers b₀ [] input texts b line piece t.texts b₁ line₁ s t.takes)
 

@@ -8,7 +8,7 @@ use Rattle.transcript.specs.Answering.{AnswersLine, RunsOn, contents}
 use Rattle.transcript.specs.declared.console.Console.{Console}
 use Rattle.transcript.specs.declared.console.NoMemory.{NoMemory}
 use Rattle.transcript.specs.Fronts.{front_bytes}
-use Rattle.transcript.specs.Lines.{Answering, Completes, Finished, Goes_on, SoFar, Taken, Told}
+use Rattle.transcript.specs.Lines.{Answering, Completes, Finished, GoesOn, SoFar, Taken, Told}
 
 module _ {M D W : Type 0} (main : M → List ℤ) (draft : D → List ℤ) (may : W → May) where
   -- how its book answers lines
@@ -32,7 +32,7 @@ module _ {M D W : Type 0} (main : M → List ℤ) (draft : D → List ℤ) (may 
   -- whatever came before, with the piece more of the input has come, and was answered
   abbrev pub GoesOnBy : Console M D W → List ℕ → List ℕ → Console M D W → List ℕ → Type 0
   GoesOnBy c piece told c₁ told₁ =
-      Goes_on (by_its_rule c) (contents main draft c.book) (front_bytes c.front) piece told (contents main draft c₁.book) (front_bytes c₁.front) told₁
+      GoesOn (by_its_rule c) (contents main draft c.book) (front_bytes c.front) piece told (contents main draft c₁.book) (front_bytes c₁.front) told₁
 
   -- the input ends here, and its last line, if it is not empty, is answered
   abbrev pub EndsInput : Console M D W → List ℕ → Console M D W → List ℕ → Type 0

@@ -57,8 +57,8 @@ abbrev pub SoFar : {B : Type 0} → Answering B → B → List ℕ → List ℕ 
 SoFar Answers b₀ input texts b line = Takes Answers b₀ [] input texts b line
 
 -- whatever came so far, with this piece more has come
-abbrev pub Goes_on : {B : Type 0} → Answering B → B → List ℕ → List ℕ → List ℕ → B → List ℕ → List ℕ → Type 0
-Goes_on {B = B} Answers b line piece told b₁ line₁ told₁ =
+abbrev pub GoesOn : {B : Type 0} → Answering B → B → List ℕ → List ℕ → List ℕ → B → List ℕ → List ℕ → Type 0
+GoesOn {B = B} Answers b line piece told b₁ line₁ told₁ =
     (b₀ : B) (input texts : List ℕ)
     → SoFar Answers b₀ input texts b line
     → (new : List ℕ) × (told₁ ≡ told ++ new) × SoFar Answers b₀ (input ++ piece) (texts ++ new) b₁ line₁
