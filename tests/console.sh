@@ -52,9 +52,9 @@ expect 'an error of reading (standard input is a folder)' 1 $?
 echo 'B 0' | "$program" >/dev/full 2>/dev/null
 expect 'an error of writing (the device is full)' 1 $?
 
-# ---- a closed pipe ends it by the signal, as other filters
-yes 'B 9' | head -n 2000000 | { "$program"; echo $? >"$work/status"; } | head -n 1 >/dev/null
-expect 'a closed pipe (128 + SIGPIPE)' 141 "$(cat "$work/status")"
+# ---- a closed pipe ends it too: the toolchain's programs do not heed SIGPIPE, so the write fails
+yes 'B 9' | head -n 2000000 | { "$program" 2>/dev/null; echo $? >"$work/status"; } | head -n 1 >/dev/null
+expect 'a closed pipe' 1 "$(cat "$work/status")"
 
 # ---- the last line, with and without byte 10, and an empty input
 expect 'a last line without byte 10 counts' 'T 1 1 1;' "$(printf 'B 0' | "$program" | tr '\n' ';')"
