@@ -53,8 +53,8 @@ def is_own(name):
     return name in BY_HAND or (OWN_FORM.fullmatch(name) and name not in OF_THE_KIT)
 
 
-def without_comments(text, mark):
-    return re.sub(r"(?m)(^|\s)%s(\s.*)?$" % mark, lambda m: " " * 0 + m[1], text)
+def without_comments(text):
+    return re.sub(r"(?m)(^|\s)--(\s.*)?$", r"\1", text)
 
 
 def names_in(text):
@@ -97,13 +97,13 @@ def in_document(text, table):
 def main(top):
     os.chdir(top)
     paths = [p for p in glob.glob("crates/*/*/**/*.antt", recursive=True) if "/out/" not in p]
-    sources = [p for p in glob.glob("crates/*/src/**/*.rt", recursive=True)]
+    sources = glob.glob("crates/*/src/**/*.rt", recursive=True)
     documents = ["README.md", *glob.glob("docs/*.md")]
     texts = {p: open(p, encoding="utf-8").read() for p in paths + sources + documents if os.path.exists(p)}
     own, fields = set(), set()
     for p in paths:
         if not IS_ANSWER.search(p):
-            code = without_comments(texts[p], "--")
+            code = without_comments(texts[p])
             own |= names_in(A_USE.sub("", code))
             fields |= {it for it in A_FIELD.findall(code) if is_own(it)}
     table = {it: new_name(it) for it in own}
