@@ -1,87 +1,64 @@
--- Bytes as numbers: how many there are, which bytes make number i, and that replacing those four replaces that number alone.
-use Rattle.std.proofs.Common.{◌≡◌, ℕ, zero, suc, ◌+◌, ◌*◌, ◌/◌, ◌%◌, ◌^◌, ◌<◌, ◌≤◌, cond, List, [], ◌∷◌, length, get_or, drop, set, ℤ, Some, sym, refl, ap, ◌∙◌, arith, length-set, to_z-of_z, w32, SFits, to_z, of_z, le-ltb, lt-ltb}
-use Rattle.std.specs.List.{slice_get}
-use Rattle.std.proofs.lemmas.List.{drop-set-lt}
+-- Bytes as numbers: how many there are, and that writing the four bytes of one replaces that number alone.
+use Rattle.std.proofs.Common.{◌≡◌, ℕ, zero, suc, ◌*◌, ◌/◌, ◌<◌, ◌≤◌, List, [], ◌∷◌, ◌++◌, length, take, drop, map, set, ℤ, sym, refl, ap, ◌∙◌, arith, length-append, length-take, length-drop, to_z-of_z, w32, SFits, to_z, of_z}
+use Rattle.std.proofs.lemmas.List.{drop-append-le, drop_at, length-map, map-set, take-append-drop, take-append-le, take_at}
+use Rattle.std.proofs.lemmas.Nat.{from_be_bytes-to_be_bytes_4}
+pub use Rattle.std.proofs.lemmas.Slice.{overwrites}
+use Rattle.std.specs.Simd.{first_chunks}
+use borrow.Rule.Slice.PartMut.{put_mid}
+use mathlib.Core.Path.{ap₂}
 use mir.ValLaws.{of_z_fits}
-use native.Mathlib.Nat.{div-div-eq-div-mul}
-use Rattle.byte_store.specs.Numbers.{left_over, number, numbers, put_number, with_four, with_number}
+use Rattle.byte_store.specs.Numbers.{bytes_of, number, numbers}
 
-pub numbers_length : (bs : List ℕ) → length (numbers bs) ≡ length bs / 4
-numbers_length [] = refl
-numbers_length (a ∷ []) = refl
-numbers_length (a ∷ b ∷ []) = refl
-numbers_length (a ∷ b ∷ c ∷ []) = refl
-numbers_length (a ∷ b ∷ c ∷ d ∷ rest) = omega (arith, numbers_length rest)
+length-first_chunks : (k : ℕ) (bytes : List ℕ) → length (first_chunks 4 k bytes) ≡ k
+length-first_chunks zero bytes = refl
+length-first_chunks (suc k) bytes = ap suc (length-first_chunks k (drop 4 bytes))
 
-pub numbers_at : (bs : List ℕ) (i : ℕ) → i < length bs / 4
-    → slice_get (numbers bs) i ≡ Some (number (get_or bs (4 * i) 0) (get_or bs (4 * i + 1) 0) (get_or bs (4 * i + 2) 0) (get_or bs (4 * i + 3) 0))
-numbers_at [] i h = absurd (omega arith)
-numbers_at (a ∷ []) i h = absurd (omega arith)
-numbers_at (a ∷ b ∷ []) i h = absurd (omega arith)
-numbers_at (a ∷ b ∷ c ∷ []) i h = absurd (omega arith)
-numbers_at (a ∷ b ∷ c ∷ d ∷ rest) zero h = refl
-numbers_at (a ∷ b ∷ c ∷ d ∷ rest) (suc j) h =
-    let ih = numbers_at rest j (omega arith) in
-    let at : (n m : ℕ) → n ≡ suc (suc (suc (suc m))) → get_or (a ∷ b ∷ c ∷ d ∷ rest) n 0 ≡ get_or rest m 0 = λ n m e. ap (λ k. get_or (a ∷ b ∷ c ∷ d ∷ rest) k 0) e in
-    let s0 = at (4 * suc j) (4 * j) (omega arith) in
-    let s1 = at (4 * suc j + 1) (4 * j + 1) (omega arith) in
-    let s2 = at (4 * suc j + 2) (4 * j + 2) (omega arith) in
-    let s3 = at (4 * suc j + 3) (4 * j + 3) (omega arith) in
-    cc
-
-pub numbers_set : (bs : List ℕ) (i p q r s : ℕ) → i < length bs / 4
-    → numbers (with_four bs (4 * i) p q r s) ≡ set (numbers bs) i (number p q r s)
-numbers_set [] i p q r s h = absurd (omega arith)
-numbers_set (a ∷ []) i p q r s h = absurd (omega arith)
-numbers_set (a ∷ b ∷ []) i p q r s h = absurd (omega arith)
-numbers_set (a ∷ b ∷ c ∷ []) i p q r s h = absurd (omega arith)
-numbers_set (a ∷ b ∷ c ∷ d ∷ rest) zero p q r s h = refl
-numbers_set (a ∷ b ∷ c ∷ d ∷ rest) (suc j) p q r s h =
-    let up : ℕ → ℕ = λ n. suc (suc (suc (suc n))) in
-    let w : ℕ → ℕ → ℕ → ℕ → List ℤ = λ k l m n. numbers (set (set (set (set (a ∷ b ∷ c ∷ d ∷ rest) k p) l q) m r) n s) in
-    let e0 : 4 * suc j ≡ up (4 * j) = omega arith in
-    let e1 : 4 * suc j + 1 ≡ up (4 * j + 1) = omega arith in
-    let e2 : 4 * suc j + 2 ≡ up (4 * j + 2) = omega arith in
-    let e3 : 4 * suc j + 3 ≡ up (4 * j + 3) = omega arith in
-    ap (λ k. w k (4 * suc j + 1) (4 * suc j + 2) (4 * suc j + 3)) e0
-    ∙ ap (λ l. w (up (4 * j)) l (4 * suc j + 2) (4 * suc j + 3)) e1
-    ∙ ap (λ m. w (up (4 * j)) (up (4 * j + 1)) m (4 * suc j + 3)) e2
-    ∙ ap (λ n. w (up (4 * j)) (up (4 * j + 1)) (up (4 * j + 2)) n) e3
-    ∙ ap (λ l. number a b c d ∷ l) (numbers_set rest j p q r s (omega arith))
-
--- a number from its bytes, by dividing it by 256 three times
-joined : (n p q r a b c d : ℕ) → n ≡ 256 * p + d → p ≡ 256 * q + c → q ≡ 256 * r + b → a ≡ r → a * 16777216 + b * 65536 + c * 256 + d ≡ n
-joined n p q r a b c d e f g h = omega arith
-
-split : (n : ℕ) → n < 2 ^ 32 → n / 16777216 % 256 * 16777216 + n / 65536 % 256 * 65536 + n / 256 % 256 * 256 + n % 256 ≡ n
-split n h =
-    let a : n / 256 / 256 ≡ n / 65536 = div-div-eq-div-mul n 256 256 in
-    let b : n / 65536 / 256 ≡ n / 16777216 = div-div-eq-div-mul n 65536 256 in
-    let e : n ≡ 256 * (n / 256) + n % 256 = omega arith in
-    let f : n / 256 ≡ 256 * (n / 65536) + n / 256 % 256 = omega arith in
-    let g : n / 65536 ≡ 256 * (n / 16777216) + n / 65536 % 256 = omega arith in
-    let r : n / 16777216 < 256 = omega arith in
-    let k : n / 16777216 % 256 ≡ n / 16777216 = omega arith in
-    joined n (n / 256) (n / 65536) (n / 16777216) (n / 16777216 % 256) (n / 65536 % 256) (n / 256 % 256) (n % 256) e f g k
+pub length-numbers : (bytes : List ℕ) → length (numbers bytes) ≡ length bytes / 4
+length-numbers bytes = length-map _ number ∙ length-first_chunks (length bytes / 4) bytes
 
 -- the four bytes of a number make that number
-pub number_of : (z : ℤ) → SFits w32 z → number (of_z w32 z / 16777216 % 256) (of_z w32 z / 65536 % 256) (of_z w32 z / 256 % 256) (of_z w32 z % 256) ≡ z
-number_of z f = let h : of_z w32 z < 2 ^ 32 = (of_z_fits w32 z f).fits in ap (to_z w32) (split (of_z w32 z) h) ∙ to_z-of_z f
+number-bytes_of : (z : ℤ) → SFits w32 z → number (bytes_of z) ≡ z
+number-bytes_of z fits =
+    let below = of_z_fits w32 z fits in
+    ap (to_z w32) (from_be_bytes-to_be_bytes_4 (of_z w32 z) below.fits) ∙ to_z-of_z fits
 
--- the bytes past the last number are not among the four
-pub left_over_kept : (bs : List ℕ) (i p q r s : ℕ) → i < length bs / 4 → left_over (with_four bs (4 * i) p q r s) ≡ left_over bs
-left_over_kept bs i p q r s h =
-    let n = 4 * (length bs / 4) in
-    let same : length (with_four bs (4 * i) p q r s) ≡ length bs = simp length-set in
-    let a : 4 * i < n = omega arith in
-    let b : 4 * i + 1 < n = omega arith in
-    let c : 4 * i + 2 < n = omega arith in
-    let d : 4 * i + 3 < n = omega arith in
-    ap (λ l. drop (4 * (l / 4)) (with_four bs (4 * i) p q r s)) same
-    ∙ drop-set-lt n _ (4 * i + 3) s d ∙ drop-set-lt n _ (4 * i + 2) r c ∙ drop-set-lt n _ (4 * i + 1) q b ∙ drop-set-lt n _ (4 * i) p a
+-- four bytes in place of four others, past i chunks, replace chunk i alone
+first_chunks-replaced : (k i : ℕ) (front four old back : List ℕ) → length front ≡ 4 * i → length four ≡ 4 → length old ≡ 4 → i < k
+    → first_chunks 4 k (front ++ (four ++ back)) ≡ set (first_chunks 4 k (front ++ (old ++ back))) i four
+first_chunks-replaced zero i front four old back f n o h = absurd (omega arith)
+first_chunks-replaced (suc k) zero [] four old back f n o h =
+    ap₂ ◌∷◌ (take_at four back 4 n) (ap (first_chunks 4 k) (drop_at four back 4 n ∙ sym (drop_at old back 4 o)))
+first_chunks-replaced (suc k) zero (x ∷ front) four old back f n o h = absurd (omega arith)
+first_chunks-replaced (suc k) (suc i) front four old back f n o h =
+    let long : 4 ≤ length front = omega arith in
+    let rest : length (drop 4 front) ≡ 4 * i = omega (arith, length-drop 4 front) in
+    simp (take-append-le, drop-append-le)
+    (ap (λ l. take 4 front ∷ l) (first_chunks-replaced k i (drop 4 front) four old back rest n o (omega arith)))
 
-pub put_number_within : (bs : List ℕ) (i : ℕ) (z : ℤ) → i < length bs / 4 → with_number bs (4 * i) z ≡ put_number bs i z
-put_number_within bs i z h = sym (ap (λ b. cond b (with_number bs (4 * i) z) bs) (lt-ltb i (length bs / 4) h))
+-- the numbers after a write of four bytes, those of a number
+pub numbers-put_mid : (bytes four : List ℕ) (i k : ℕ) (z : ℤ) → SFits w32 z → i < length (numbers bytes) → k ≡ 4 → four ≡ bytes_of z
+    → numbers (put_mid (4 * i) k bytes four) ≡ set (numbers bytes) i z
+numbers-put_mid bytes four i k z fits within four_each written =
+    let n = length bytes / 4 in
+    let front = take (4 * i) bytes in
+    let old = take 4 (drop (4 * i) bytes) in
+    let back = drop 4 (drop (4 * i) bytes) in
+    let new = front ++ (bytes_of z ++ back) in
+    let h : i < n = omega (arith, length-numbers bytes) in
+    let f : length front ≡ 4 * i = omega (arith, length-take (4 * i) bytes) in
+    let o : length old ≡ 4 = omega (arith, length-take 4 (drop (4 * i) bytes), length-drop (4 * i) bytes) in
+    let whole : front ++ (old ++ back) ≡ bytes =
+    ap (λ l. front ++ l) (take-append-drop 4 (drop (4 * i) bytes)) ∙ take-append-drop (4 * i) bytes
+    in
+    let same : length new ≡ length bytes =
+    simp length-append (omega (arith, length-drop 4 (drop (4 * i) bytes), length-drop (4 * i) bytes))
+    in
+    ap₂ (λ m l. numbers (put_mid (4 * i) m bytes l)) four_each written
+    ∙ ap (λ l. map number (first_chunks 4 (l / 4) new)) same
+    ∙ ap (map number) (first_chunks-replaced n i front (bytes_of z) old back f refl o h)
+    ∙ ap (λ l. map number (set (first_chunks 4 n l) i (bytes_of z))) whole
+    ∙ map-set number (first_chunks 4 n bytes) i (bytes_of z)
+    ∙ ap (set (numbers bytes) i) (number-bytes_of z fits)
 
-pub put_number_past : (bs : List ℕ) (i : ℕ) (z : ℤ) → length bs / 4 ≤ i → bs ≡ put_number bs i z
-put_number_past bs i z h = sym (ap (λ b. cond b (with_number bs (4 * i) z) bs) (le-ltb i (length bs / 4) h))
+-- what the store's methods need
+pub ruleset numbering = (length-numbers, numbers-put_mid, overwrites)

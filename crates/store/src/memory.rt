@@ -1,5 +1,5 @@
 ghost use Rattle.std.specs.Prelude.{◌≡◌, slice_set};
-ghost use Rattle.store.specs.Rows.{cell_at, put_answer};
+ghost use Rattle.store.specs.Rows.{put_answer};
 
 use crate::row::{Outside, Store};
 
@@ -18,7 +18,7 @@ impl<'a, T> Memory<'a, T> {
     }
 }
 
-impl<'a, T: Copy> Store for Memory<'a, T> {
+impl<T: Copy> Store for Memory<'_, T> {
     type Cell = T;
 
     ghost row = { λ s. s.cells.now };
@@ -28,7 +28,7 @@ impl<'a, T: Copy> Store for Memory<'a, T> {
     }
 
     fn get(&self, i: usize) -> Result<T, Outside> {
-        cell_in(self.cells, i)
+        self.cells.get(i).copied().ok_or(Outside)
     }
 
     // The first two clauses are the store's own. The third says that the cells stay in the memory that was lent: whoever
@@ -44,10 +44,4 @@ impl<'a, T: Copy> Store for Memory<'a, T> {
         self.cells[i] = cell;
         Ok(())
     }
-}
-
-fn cell_in<T: Copy>(cells: &[T], i: usize) -> Result<T, Outside>
-    ensures cell { result ≡ cell_at cells.now i }
-{
-    cells.get(i).copied().ok_or(Outside)
 }

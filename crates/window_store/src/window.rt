@@ -1,6 +1,6 @@
-ghost use Rattle.std.specs.Prelude.{◌≡◌, ◌+◌, ◌-◌, length, is_ok, if◌then◌else◌, Some, None, slice_set};
-ghost use Rattle.store.specs.Rows.{cell_at, put_answer};
-ghost use Rattle.window_store.specs.Parts.{part, place_below};
+ghost use Rattle.std.specs.Prelude.{◌≡◌, ◌+◌, ◌^◌, ◌<◌, length, slice_set, OnOk, OnErr};
+ghost use Rattle.store.specs.Rows.{put_answer};
+ghost use Rattle.window_store.specs.Window.{window_row};
 
 use store::{Outside, Store};
 
@@ -28,77 +28,46 @@ impl<S: Store> Window<S> {
     pub fn into_parts(self) -> (S, usize, usize)
         ensures parts { result ≡ (self.below, self.start, self.count) }
     {
-        let Window {
-            below,
-            start: from,
-            count: most,
-        } = self;
-        (below, from, most)
-    }
-
-    // How many cells the window shows.
-    fn shown(&self) -> usize
-        ensures count { result ≡ length (part self.now.start self.now.count (S.Store.row self.now.below)) }
-    {
-        let rest = self.below.len().saturating_sub(self.start);
-        self.count.min(rest)
-    }
-
-    // Where cell `i` of the window lies below, if the window has it.
-    fn place(&self, i: usize) -> Option<usize>
-        ensures place { result ≡ place_below self.now.start self.now.count (length (S.Store.row self.now.below)) i }
-    {
-        let rest = self.below.len().saturating_sub(self.start);
-        if i < self.count.min(rest) {
-            Some(self.start + i)
-        } else {
-            None
-        }
-    }
-
-    fn cell(&self, i: usize) -> Result<S::Cell, Outside>
-        ensures cell { result ≡ cell_at (part self.now.start self.now.count (S.Store.row self.now.below)) i }
-    {
-        match self.place(i) {
-            Some(at) => self.below.get(at),
-            None => Err(Outside),
-        }
-    }
-
-    fn replace(&mut self, i: usize, cell: S::Cell) -> Result<(), Outside>
-        ensures answer { result ≡ put_answer (part self.old.start self.old.count (S.Store.row self.old.below)) i }
-        ensures row_after { part self.new.start self.new.count (S.Store.row self.new.below) ≡ slice_set (part self.old.start self.old.count (S.Store.row self.old.below)) i cell }
-        ensures row_below_after { S.Store.row self.new.below ≡ (if is_ok result then slice_set (S.Store.row self.old.below) (self.old.start + i) cell else S.Store.row self.old.below) }
-        ensures same_frame { (self.new.start ≡ self.old.start) × (self.new.count ≡ self.old.count) }
-    {
-        match self.place(i) {
-            Some(at) => self.below.put(at, cell),
-            None => Err(Outside),
-        }
+        (self.below, self.start, self.count)
     }
 }
 
 impl<S: Store> Store for Window<S> {
     type Cell = S::Cell;
 
-    ghost row = { λ w. part w.start w.count (S.Store.row w.below) };
+    ghost row = { window_row S.Store.row };
 
-    fn len(&self) -> usize {
-        self.shown()
+    // The first clause is the store's own. The other says that a `usize` can hold the window's end below, and so the
+    // place of each of its cells there.
+    fn len(&self) -> usize
+        ensures length_of_row { result ≡ length (window_row S.Store.row self.now) }
+        ensures end_fits { self.now.start + result < 2 ^ 64 }
+    {
+        self.below.len().saturating_sub(self.start).min(self.count)
     }
 
     fn get(&self, i: usize) -> Result<S::Cell, Outside> {
-        self.cell(i)
+        if i >= self.len() {
+            return Err(Outside);
+        }
+        self.below.get(self.start + i)
     }
 
     // The first two clauses are the store's own. The others say that below the window the one cell is replaced and no
-    // other, and that the window stays where it is.
+    // other, or none if the number is outside, and that the window stays where it is.
+    #[tactic(auto, using(crate::proofs::Parts::part_set))]
     fn put(&mut self, i: usize, cell: S::Cell) -> Result<(), Outside>
-        ensures answer { result ≡ put_answer (part self.old.start self.old.count (S.Store.row self.old.below)) i }
-        ensures row_after { part self.new.start self.new.count (S.Store.row self.new.below) ≡ slice_set (part self.old.start self.old.count (S.Store.row self.old.below)) i cell }
-        ensures row_below_after { S.Store.row self.new.below ≡ (if is_ok result then slice_set (S.Store.row self.old.below) (self.old.start + i) cell else S.Store.row self.old.below) }
-        ensures same_frame { (self.new.start ≡ self.old.start) × (self.new.count ≡ self.old.count) }
+        ensures answer { result ≡ put_answer (window_row S.Store.row self.old) i }
+        ensures row_after { window_row S.Store.row self.new ≡ slice_set (window_row S.Store.row self.old) i cell }
+        ensures row_below_after { OnOk result
+            (S.Store.row self.new.below ≡ slice_set (S.Store.row self.old.below) (self.old.start + i) cell) }
+        ensures row_below_kept { OnErr result (S.Store.row self.new.below ≡ S.Store.row self.old.below) }
+        ensures same_start { self.new.start ≡ self.old.start }
+        ensures same_count { self.new.count ≡ self.old.count }
     {
-        self.replace(i, cell)
+        if i >= self.len() {
+            return Err(Outside);
+        }
+        self.below.put(self.start + i, cell)
     }
 }
