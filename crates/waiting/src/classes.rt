@@ -4,6 +4,7 @@ ghost use Rattle.waiting.specs.Table.{in_words};
 ghost use Rattle.waiting.specs.Transitive.{classes_transitive};
 ghost use Rattle.std.proofs.Common.{rules};
 
+use crate::elder::Elder;
 use crate::party::Party;
 use crate::rule::WaitingRule;
 use crate::table::{Decision, decision_of};
@@ -13,11 +14,11 @@ use crate::table::{Decision, decision_of};
 pub struct Classes;
 
 impl WaitingRule for Classes {
-    ghost may = { λ rule waiter blocker. classes waiter blocker };
+    ghost may = { λ _. classes };
 
     ghost irreflexive = { Prim.search rules };
 
-    ghost transitive = { λ rule. classes_transitive };
+    ghost transitive = { λ _. classes_transitive };
 
     fn may_wait(&self, waiter: &Party, blocker: &Party) -> bool
         ensures answer { result ≡ classes waiter.now blocker.now }
@@ -26,7 +27,7 @@ impl WaitingRule for Classes {
         match decision_of(waiter.class, blocker.class) {
             Decision::No => false,
             Decision::Yes => true,
-            Decision::Elder => waiter.ticket < blocker.ticket,
+            Decision::Elder => Elder.may_wait(waiter, blocker),
         }
     }
 }

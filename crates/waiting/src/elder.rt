@@ -10,7 +10,7 @@ use crate::rule::WaitingRule;
 pub struct Elder;
 
 impl WaitingRule for Elder {
-    ghost may = { λ rule waiter blocker. elder waiter blocker };
+    ghost may = { λ _. elder };
 
     ghost irreflexive = { Prim.search rules };
 

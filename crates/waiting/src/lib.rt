@@ -14,7 +14,7 @@ pub mod rule;
 pub mod table;
 
 pub use chain::is_chain_of_waits;
-pub use class::Class;
+pub use class::{Class, NoSuchClass};
 pub use classes::Classes;
 pub use elder::Elder;
 pub use never::Never;

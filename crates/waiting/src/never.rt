@@ -10,7 +10,7 @@ use crate::rule::WaitingRule;
 pub struct Never;
 
 impl WaitingRule for Never {
-    ghost may = { λ rule waiter blocker. never waiter blocker };
+    ghost may = { λ _. never };
 
     ghost irreflexive = { Prim.search rules };
 

@@ -1,3 +1,5 @@
+ghost use Rattle.std.specs.Prelude.{◌≡◌};
+
 use crate::class::Class;
 
 // A job as a waiting rule sees it: its class, and its ticket, the number that it got when it began and no other job has.
@@ -5,4 +7,12 @@ use crate::class::Class;
 pub struct Party {
     pub class: Class,
     pub ticket: u32,
+}
+
+impl Party {
+    pub fn new(class: Class, ticket: u32) -> Party
+        ensures made { result ≡ record { class = class; ticket = ticket } }
+    {
+        Party { class, ticket }
+    }
 }

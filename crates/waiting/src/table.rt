@@ -1,6 +1,5 @@
-ghost use Rattle.std.specs.Prelude.{◌≡◌, ◌+◌, ◌*◌, ◌<◌, slice_index_or};
-ghost use Rattle.waiting.specs.Numbers.{class_number};
-ghost use Rattle.waiting.specs.Table.{table, entry_of, in_words};
+ghost use Rattle.std.specs.Prelude.{◌≡◌};
+ghost use Rattle.waiting.specs.Table.{entry_of, in_words};
 
 use crate::class::Class;
 
@@ -36,26 +35,11 @@ const TABLE: [Decision; 16] = [
     Decision::Elder, // 3 for 3
 ];
 
-// The table's entry at a place.
-fn entry_at(place: usize) -> Decision
-    requires { place < 16 }
-    ensures entry { result ≡ slice_index_or table place Decision.No }
-{
-    TABLE[place]
-}
-
-// The place in the table of a row and a column.
-fn place_of(waiter: Class, blocker: Class) -> usize
-    ensures place { result ≡ 4 * class_number waiter + class_number blocker }
-    ensures inside { result < 16 }
-{
-    4 * waiter.number() as usize + blocker.number() as usize
-}
-
 // What the table says of a job of the class `waiter` that would wait for one of the class `blocker`.
+#[tactic(auto, using(crate::specs::Transitive::entry_in_words))]
 pub fn decision_of(waiter: Class, blocker: Class) -> Decision
     ensures table { result ≡ entry_of waiter blocker }
     ensures words { result ≡ in_words waiter blocker }
 {
-    entry_at(place_of(waiter, blocker))
+    TABLE[4 * waiter as usize + blocker as usize]
 }
