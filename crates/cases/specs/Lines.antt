@@ -4,8 +4,8 @@ use Rattle.schedule.specs.Books.{Book, fresh_book}
 use Rattle.schedule.specs.declared.answer.Refusal.{Refusal}
 use Rattle.schedule.specs.declared.answer.Refusal.TheVariants as refusal
 use Rattle.schedule.specs.declared.answer.Rejection.TheVariants as rejection
-use Rattle.schedule.specs.declared.answer.Reply.{Reply}
-use Rattle.schedule.specs.declared.answer.Reply.TheVariants as reply
+use Rattle.schedule.specs.Answers.{Reply}
+use Rattle.schedule.specs.declared.answer.NotGranted.TheVariants as not_granted
 use Rattle.schedule.specs.declared.request.Event.{Event}
 use Rattle.schedule.specs.declared.request.Event.TheVariants as event
 use Rattle.schedule.specs.declared.request.Request.{Request}
@@ -56,27 +56,27 @@ size_refused size = event.GroupSize size (Err refusal.NoSuchGroupSize)
 
 -- the read is granted, and gives this number
 abbrev pub gives : ℕ → Reply ℤ
-gives number = reply.Granted (pos number)
+gives number = Ok (pos number)
 
 -- the write is granted
 abbrev pub granted : Reply (Unit {0})
-granted = reply.Granted tt
+granted = Ok tt
 
 -- the job is to wait for the job with this ticket
 abbrev pub waits_for : {X : Type 0} → ℕ → Reply X
-waits_for ticket = reply.Wait ticket
+waits_for ticket = Err (not_granted.Wait ticket)
 
 -- rejected, as this later group has been there: 7
 abbrev pub too_late_for : {X : Type 0} → ℕ → Reply X
-too_late_for group = reply.Rejected (rejection.TooLate group)
+too_late_for group = Err (not_granted.Rejected (rejection.TooLate group))
 
 -- rejected, as the rule forbids to wait for the job with this ticket: 8
 abbrev pub may_not_wait_for : {X : Type 0} → ℕ → Reply X
-may_not_wait_for ticket = reply.Rejected (rejection.MayNotWait ticket)
+may_not_wait_for ticket = Err (not_granted.Rejected (rejection.MayNotWait ticket))
 
 -- refused, as there is no such cell: 5
 abbrev pub no_such_cell : {X : Type 0} → Reply X
-no_such_cell = reply.Refused refusal.NoSuchCell
+no_such_cell = Err (not_granted.Refused refusal.NoSuchCell)
 
 -- ---- a line ----
 

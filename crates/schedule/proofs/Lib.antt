@@ -1,4 +1,5 @@
 pub mod Admitting
 pub mod Answering
+pub mod Rows
 pub mod Sizes
 pub mod Sweeps

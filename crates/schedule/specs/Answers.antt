@@ -1,5 +1,6 @@
--- The number of each refusal and rejection, and what a rejection names.
-use Rattle.std.specs.Prelude.{ℕ}
+-- What a read or a write gets, the number of each refusal and rejection, and what a rejection names.
+use Rattle.std.specs.Prelude.{ℕ, Result}
+use Rattle.schedule.specs.declared.answer.NotGranted.{NotGranted}
 use Rattle.schedule.specs.declared.answer.Refusal.{Refusal}
 use Rattle.schedule.specs.declared.answer.Refusal.TheVariants as refusal
 use Rattle.schedule.specs.declared.answer.Rejection.{Rejection}
@@ -24,3 +25,7 @@ rejection_number (rejection.MayNotWait ticket) = 8
 abbrev pub rejection_detail : Rejection → ℕ
 rejection_detail (rejection.TooLate group) = group
 rejection_detail (rejection.MayNotWait ticket) = ticket
+
+-- what a read or a write gets: an X where it is granted
+abbrev pub Reply : Type 0 → Type 0
+Reply X = Result X NotGranted

@@ -3,10 +3,10 @@ use Rattle.std.specs.Prelude.{ℕ, zero, suc, min, cond, List, [], ◌∷◌, le
 use Rattle.schedule.specs.Cells.{is_writer}
 use Rattle.schedule.specs.declared.answer.Refusal.{Refusal}
 use Rattle.schedule.specs.declared.answer.Refusal.TheVariants as refusal
-use Rattle.schedule.specs.declared.answer.Reply.{Reply}
-use Rattle.schedule.specs.declared.answer.Reply.TheVariants as reply
+use Rattle.schedule.specs.Answers.{Reply}
+use Rattle.schedule.specs.declared.answer.NotGranted.TheVariants as not_granted
 use Rattle.schedule.specs.declared.cell.CellRecord.{CellRecord}
-use Rattle.schedule.specs.declared.job.Job.{Job}
+use Rattle.schedule.specs.declared.job.Seated.{Seated}
 use Rattle.schedule.specs.declared.verdict.Source.{Source}
 use Rattle.schedule.specs.declared.verdict.Source.TheVariants as source
 use Rattle.schedule.specs.States.{State, fresh_state}
@@ -47,15 +47,13 @@ book_group_size b size = with_state b (group_size_step b.state size)
 -- ---- read: both rows stay; a grant gives the cell of the store that the state names ----
 
 abbrev pub granted_cell : {C : Type 0} → Option C → Reply C
-granted_cell None = reply.Refused refusal.NoSuchCell
-granted_cell (Some c) = reply.Granted c
+granted_cell None = Err (not_granted.Refused refusal.NoSuchCell)
+granted_cell (Some c) = Ok c
 
 abbrev pub fetched : {C : Type 0} → List C → List C → ℕ → Reply Source → Reply C
-fetched main draft cell (reply.Granted source.Main) = granted_cell (slice_get main cell)
-fetched main draft cell (reply.Granted source.Draft) = granted_cell (slice_get draft cell)
-fetched main draft cell (reply.Wait blocker) = reply.Wait blocker
-fetched main draft cell (reply.Rejected why) = reply.Rejected why
-fetched main draft cell (reply.Refused why) = reply.Refused why
+fetched main draft cell (Ok source.Main) = granted_cell (slice_get main cell)
+fetched main draft cell (Ok source.Draft) = granted_cell (slice_get draft cell)
+fetched main draft cell (Err why) = Err why
 
 abbrev pub read_as : {C : Type 0} → Book C → ℕ → Reply Source × State → Reply C × Book C
 read_as b cell p = (fetched b.main b.draft cell p.0, book b.main b.draft p.1)
@@ -66,10 +64,8 @@ book_read may b ticket cell = read_as b cell (read_step may b.state ticket cell)
 -- ---- write: a grant puts the new cell into the draft row ----
 
 abbrev pub drafted : {C : Type 0} → List C → ℕ → C → Reply (Unit {0}) → List C
-drafted draft cell c (reply.Granted u) = slice_set draft cell c
-drafted draft cell c (reply.Wait blocker) = draft
-drafted draft cell c (reply.Rejected why) = draft
-drafted draft cell c (reply.Refused why) = draft
+drafted draft cell c (Ok u) = slice_set draft cell c
+drafted draft cell c (Err why) = draft
 
 abbrev pub write_as : {C : Type 0} → Book C → ℕ → C → Reply (Unit {0}) × State → Reply (Unit {0}) × Book C
 write_as b cell c p = (p.0, book b.main (drafted b.draft cell c p.0) p.1)
@@ -88,9 +84,9 @@ carried (suc n) (r ∷ cells) row (m ∷ main) [] = m ∷ main
 carried (suc n) (r ∷ cells) row (m ∷ main) (d ∷ draft) = cond (is_writer r.writer row) d m ∷ carried n cells row main draft
 
 -- the main row after an end of this job, in this row, if it is not refused
-abbrev pub kept : {C : Type 0} → Book C → Result (ℕ × Job) Refusal → List C
+abbrev pub kept : {C : Type 0} → Book C → Result Seated Refusal → List C
 kept b (Err why) = b.main
-kept b (Ok p) = carried (length b.state.cells) b.state.cells p.0 b.main b.draft
+kept b (Ok p) = carried (length b.state.cells) b.state.cells p.row b.main b.draft
 
 abbrev pub book_end : {C : Type 0} → Book C → ℕ → Ended × Book C
 book_end b ticket = ((end_step b.state ticket).0, book (kept b (ending b.state.jobs ticket)) b.draft (end_step b.state ticket).1)

@@ -1,8 +1,9 @@
 -- The rows of jobs: how a job is found, and how rows change. A row is free where there is no job.
-use Rattle.std.specs.Prelude.{ℕ, suc, ◌+◌, Bool, true, false, cond, not, List, [], ◌∷◌, map, is_some, Some, None, Option, ◌==◌, slice_index_or, slice_set}
+use Rattle.std.specs.Prelude.{◌≡◌, ℕ, suc, ◌+◌, Bool, true, false, cond, not, List, [], ◌∷◌, map, is_some, Some, None, Option, ◌==◌, slice_index_or, slice_set}
 use Rattle.schedule.specs.declared.job.Job.{Job}
 use Rattle.schedule.specs.declared.job.Kind.{Kind}
 use Rattle.schedule.specs.declared.job.Kind.TheVariants as kind
+use Rattle.schedule.specs.declared.job.Seated.{Seated}
 use Rattle.schedule.specs.declared.job.Wait.{Wait}
 use Rattle.std.specs.Option.{option_map}
 use Rattle.waiting.specs.declared.party.Party.{Party}
@@ -27,6 +28,11 @@ vacant o = not (is_some o)
 -- the job in a row
 abbrev pub job_in : List (Option Job) → ℕ → Option Job
 job_in rows row = slice_index_or rows row None
+
+-- the open job with this ticket, in its row
+pub record SeatedIn (rows : List (Option Job)) (ticket : ℕ) (p : Seated) : Type 0 where
+  pub row_found : find (holds ticket) rows ≡ Some p.row
+  pub job_there : job_in rows p.row ≡ Some p.job
 
 -- how many jobs are open
 abbrev pub open_count : List (Option Job) → ℕ

@@ -3,8 +3,8 @@ use Rattle.std.specs.Prelude.{◌≡◌, ℕ, ◌≤◌, true, List, map, is_som
 use Rattle.schedule.specs.Books.{Book, size_over}
 use Rattle.schedule.specs.declared.answer.Refusal.{Refusal}
 use Rattle.schedule.specs.declared.answer.Refusal.TheVariants as refusal
-use Rattle.schedule.specs.declared.answer.Reply.{Reply}
-use Rattle.schedule.specs.declared.answer.Reply.TheVariants as reply
+use Rattle.schedule.specs.Answers.{Reply}
+use Rattle.schedule.specs.declared.answer.NotGranted.TheVariants as not_granted
 use Rattle.schedule.specs.declared.cell.CellRecord.{CellRecord}
 use Rattle.schedule.specs.declared.job.Job.{Job}
 use Rattle.schedule.specs.Jobs.{find, holds, job_in}
@@ -15,10 +15,10 @@ use Rattle.waiting.specs.declared.class.Class.{Class}
 
 -- a refusal leaves the book and both rows as they were
 abbrev pub RefusalKeeps : {C X : Type 0} → Reply X → Book C → Book C → Type 0
-RefusalKeeps (reply.Granted x) before after = Unit {0}
-RefusalKeeps (reply.Wait blocker) before after = Unit {0}
-RefusalKeeps (reply.Rejected why) before after = Unit {0}
-RefusalKeeps (reply.Refused why) before after = after ≡ before
+RefusalKeeps (Ok x) before after = Unit {0}
+RefusalKeeps (Err (not_granted.Wait blocker)) before after = Unit {0}
+RefusalKeeps (Err (not_granted.Rejected why)) before after = Unit {0}
+RefusalKeeps (Err (not_granted.Refused why)) before after = after ≡ before
 
 abbrev pub ErrorKeeps : {C X : Type 0} → Result X Refusal → Book C → Book C → Type 0
 ErrorKeeps (Ok x) before after = Unit {0}
@@ -50,13 +50,13 @@ pub record ClosedAlone {C : Type 0} (ticket : ℕ) (before after : Book C) : Typ
 
 -- a rejection closes exactly that job and leaves all marks and both rows
 abbrev pub RejectionCloses : {C X : Type 0} → ℕ → Reply X → Book C → Book C → Type 0
-RejectionCloses ticket (reply.Granted x) before after = Unit {0}
-RejectionCloses ticket (reply.Wait blocker) before after = Unit {0}
-RejectionCloses ticket (reply.Rejected why) before after = ClosedAlone ticket before after
-RejectionCloses ticket (reply.Refused why) before after = Unit {0}
+RejectionCloses ticket (Ok x) before after = Unit {0}
+RejectionCloses ticket (Err (not_granted.Wait blocker)) before after = Unit {0}
+RejectionCloses ticket (Err (not_granted.Rejected why)) before after = ClosedAlone ticket before after
+RejectionCloses ticket (Err (not_granted.Refused why)) before after = Unit {0}
 
 -- over any book that a fresh one can lead to, an open job's read or write gets 5 exactly when the cell number is not below
 -- the least of the two rows' lengths and 256
 pub record OutsideExactly {C X : Type 0} (may : May) (b : Book C) (ticket cell : ℕ) (r : Reply X) : Type 0 where
-  pub outside : Reachable may b → is_some (row_of b ticket) ≡ true → size_over b.main b.draft ≤ cell → r ≡ reply.Refused refusal.NoSuchCell
-  pub only : Reachable may b → r ≡ reply.Refused refusal.NoSuchCell → (is_some (row_of b ticket) ≡ true) × (size_over b.main b.draft ≤ cell)
+  pub outside : Reachable may b → is_some (row_of b ticket) ≡ true → size_over b.main b.draft ≤ cell → r ≡ Err (not_granted.Refused refusal.NoSuchCell)
+  pub only : Reachable may b → r ≡ Err (not_granted.Refused refusal.NoSuchCell) → (is_some (row_of b ticket) ≡ true) × (size_over b.main b.draft ≤ cell)

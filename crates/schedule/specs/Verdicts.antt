@@ -1,5 +1,5 @@
 -- What the rules say of a read or a write that is not refused: granted, wait, or rejected.
-use Rattle.std.specs.Prelude.{ℕ, suc, min, max, Bool, true, false, cond, List, [], ◌∷◌, Some, None, Option, ◌==◌, nat_lt}
+use Rattle.std.specs.Prelude.{ℕ, suc, min, max, Bool, true, false, cond, List, [], ◌∷◌, Some, None, Option, ◌==◌, nat_lt, Ok, Err, Result}
 use Rattle.schedule.specs.Cells.{is_reader, is_writer}
 use Rattle.schedule.specs.declared.answer.Rejection.TheVariants as rejection
 use Rattle.schedule.specs.declared.cell.CellRecord.{CellRecord}
@@ -7,8 +7,8 @@ use Rattle.schedule.specs.declared.job.Job.{Job}
 use Rattle.schedule.specs.declared.verdict.Blockers.{Blockers}
 use Rattle.schedule.specs.declared.verdict.Source.{Source}
 use Rattle.schedule.specs.declared.verdict.Source.TheVariants as source
-use Rattle.schedule.specs.declared.verdict.Verdict.{Verdict}
-use Rattle.schedule.specs.declared.verdict.Verdict.TheVariants as verdict
+use Rattle.schedule.specs.declared.verdict.Obstacle.{Obstacle}
+use Rattle.schedule.specs.declared.verdict.Obstacle.TheVariants as obstacle
 use Rattle.schedule.specs.Jobs.{job_in, party}
 use Rattle.waiting.specs.declared.party.Party.{Party}
 
@@ -20,22 +20,26 @@ abbrev pub writer_job : List (Option Job) → Option ℕ → Option Job
 writer_job rows None = None
 writer_job rows (Some w) = job_in rows w
 
+-- what the rules say: an X where the request is to be granted
+abbrev pub Verdict : Type 0 → Type 0
+Verdict X = Result X Obstacle
+
 -- ---- read ----
 
 -- a read, where this job is the writer: of a later group it does not block; of an earlier group the reader waits for it;
 -- of the same group the waiting rule decides
 abbrev pub past_writer : May → Job → Option Job → Verdict Source
-past_writer may j None = verdict.Grant source.Main
+past_writer may j None = Ok source.Main
 past_writer may j (Some w) =
-    cond (nat_lt j.group w.group) (verdict.Grant source.Main)
-    (cond (nat_lt w.group j.group) (verdict.Wait w.ticket)
-    (cond (may (party j) (party w)) (verdict.Wait w.ticket) (verdict.Reject (rejection.MayNotWait w.ticket))))
+    cond (nat_lt j.group w.group) (Ok source.Main)
+    (cond (nat_lt w.group j.group) (Err (obstacle.Wait w.ticket))
+    (cond (may (party j) (party w)) (Err (obstacle.Wait w.ticket)) (Err (obstacle.Reject (rejection.MayNotWait w.ticket)))))
 
 -- the read of the job j in this row, of a cell with this record
 abbrev pub read_verdict : May → List (Option Job) → CellRecord → ℕ → Job → Verdict Source
 read_verdict may rows r row j =
-    cond (is_writer r.writer row) (verdict.Grant source.Draft)
-    (cond (nat_lt j.group r.write_mark) (verdict.Reject (rejection.TooLate r.write_mark))
+    cond (is_writer r.writer row) (Ok source.Draft)
+    (cond (nat_lt j.group r.write_mark) (Err (obstacle.Reject (rejection.TooLate r.write_mark)))
     (past_writer may j (writer_job rows r.writer)))
 
 -- ---- write ----
@@ -76,13 +80,13 @@ abbrev pub no_blockers : Blockers
 no_blockers = record { lowest = None; forbidden = None }
 
 abbrev pub unless_blocked : Option ℕ → Verdict (Unit {0})
-unless_blocked None = verdict.Grant tt
-unless_blocked (Some ticket) = verdict.Wait ticket
+unless_blocked None = Ok tt
+unless_blocked (Some ticket) = Err (obstacle.Wait ticket)
 
 -- rejected for the lowest forbidden ticket, else a wait for the lowest ticket, else granted
 abbrev pub unless_forbidden : Option ℕ → Option ℕ → Verdict (Unit {0})
 unless_forbidden None lowest = unless_blocked lowest
-unless_forbidden (Some ticket) lowest = verdict.Reject (rejection.MayNotWait ticket)
+unless_forbidden (Some ticket) lowest = Err (obstacle.Reject (rejection.MayNotWait ticket))
 
 abbrev pub past_blockers : Blockers → Verdict (Unit {0})
 past_blockers b = unless_forbidden b.forbidden b.lowest
@@ -90,5 +94,5 @@ past_blockers b = unless_forbidden b.forbidden b.lowest
 -- the write of the job j in this row, to a cell with this record
 abbrev pub write_verdict : May → List (Option Job) → CellRecord → ℕ → Job → Verdict (Unit {0})
 write_verdict may rows r row j =
-    cond (nat_lt j.group (top_mark rows r)) (verdict.Reject (rejection.TooLate (top_mark rows r)))
+    cond (nat_lt j.group (top_mark rows r)) (Err (obstacle.Reject (rejection.TooLate (top_mark rows r))))
     (past_blockers (gathered may r row j 0 rows no_blockers))

@@ -1,23 +1,25 @@
 ghost use Rattle.std.specs.Prelude.{◌≡◌};
 ghost use Rattle.schedule.specs.Answers.{refusal_number, rejection_detail, rejection_number};
 
-// Why a request is refused. A refusal changes nothing.
+use waiting::NoSuchClass;
+
+// Why a request is refused, with the number of the refusal. A refusal changes nothing.
 #[derive(Clone, Copy, PartialEq, Eq, Debug)]
 pub enum Refusal {
     // the class is above 3
-    NoSuchClass,
+    NoSuchClass = 1,
     // a million tickets have been given
-    TicketsSpent,
+    TicketsSpent = 2,
     // thirty-two jobs are open
-    BookFull,
+    BookFull = 3,
     // the ticket is of no open job
-    NoOpenJob,
+    NoOpenJob = 4,
     // the cell number is not below the book's size
-    NoSuchCell,
+    NoSuchCell = 5,
     // the job waits for another request
-    JobWaits,
+    JobWaits = 6,
     // the group size is 0 or above a million
-    NoSuchGroupSize,
+    NoSuchGroupSize = 9,
 }
 
 // Why a read or a write is rejected. A rejection closes the job.
@@ -29,29 +31,45 @@ pub enum Rejection {
     MayNotWait(u32),
 }
 
-// What a read or a write gets.
+// What a read or a write gets that is not granted.
 #[derive(Clone, Copy, PartialEq, Eq, Debug)]
-pub enum Reply<T> {
-    Granted(T),
+pub enum NotGranted {
     // the job is to repeat its request once the job with this ticket is out of its way
     Wait(u32),
     Rejected(Rejection),
     Refused(Refusal),
 }
 
+// What a read or a write gets: a T where it is granted.
+pub type Reply<T> = Result<T, NotGranted>;
+
+impl From<Refusal> for NotGranted {
+    ghost use Rattle.std.specs.Prelude.{◌≡◌};
+    ghost use Rattle.schedule.specs.declared.answer.NotGranted.TheVariants.{Refused};
+
+    ghost from_gives = { λ why answer. answer ≡ Refused why };
+
+    fn from(why: Refusal) -> NotGranted {
+        NotGranted::Refused(why)
+    }
+}
+
+impl From<NoSuchClass> for Refusal {
+    ghost use Rattle.std.specs.Prelude.{◌≡◌};
+    ghost use Rattle.schedule.specs.declared.answer.Refusal.TheVariants as refusal;
+
+    ghost from_gives = { λ _ why. why ≡ refusal.NoSuchClass };
+
+    fn from(_: NoSuchClass) -> Refusal {
+        Refusal::NoSuchClass
+    }
+}
+
 impl Refusal {
     pub fn number(self) -> u32
         ensures number { result ≡ refusal_number self }
     {
-        match self {
-            Refusal::NoSuchClass => 1,
-            Refusal::TicketsSpent => 2,
-            Refusal::BookFull => 3,
-            Refusal::NoOpenJob => 4,
-            Refusal::NoSuchCell => 5,
-            Refusal::JobWaits => 6,
-            Refusal::NoSuchGroupSize => 9,
-        }
+        self as u32
     }
 }
 
@@ -69,9 +87,7 @@ impl Rejection {
     pub fn detail(self) -> u32
         ensures detail { result ≡ rejection_detail self }
     {
-        match self {
-            Rejection::TooLate(group) => group,
-            Rejection::MayNotWait(ticket) => ticket,
-        }
+        let (Rejection::TooLate(named) | Rejection::MayNotWait(named)) = self;
+        named
     }
 }

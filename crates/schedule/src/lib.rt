@@ -8,9 +8,9 @@ pub mod job;
 pub mod request;
 pub mod verdict;
 
-pub use answer::{Refusal, Rejection, Reply};
+pub use answer::{NotGranted, Refusal, Rejection, Reply};
 pub use cell::CellRecord;
 pub use counters::{Closing, Counters, Report};
-pub use job::{Job, Kind, Wait};
+pub use job::{Job, Kind, Seated, Wait, job_in};
 pub use request::{Event, Request};
-pub use verdict::{Blockers, Source, Verdict};
+pub use verdict::{Blockers, Obstacle, Source, Verdict};

@@ -1,7 +1,7 @@
 use crate::answer::{Refusal, Reply};
 
 // A request to a book over cells of the type C.
-#[derive(Clone, Copy)]
+#[derive(Clone, Copy, PartialEq, Eq, Debug)]
 pub enum Request<C> {
     // a class
     Begin(u32),
@@ -18,7 +18,7 @@ pub enum Request<C> {
 }
 
 // A request with the answer that it got.
-#[derive(Clone, Copy)]
+#[derive(Clone, Copy, PartialEq, Eq, Debug)]
 pub enum Event<C> {
     // granted: ticket, group and place
     Begin(u32, Result<(u32, u32, u32), Refusal>),

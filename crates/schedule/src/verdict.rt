@@ -7,14 +7,16 @@ pub enum Source {
     Draft,
 }
 
-// What the rules say of a read or a write that is not refused.
+// What keeps a read or a write that is not refused from being granted.
 #[derive(Clone, Copy)]
-pub enum Verdict<G> {
-    Grant(G),
-    // for the job with this ticket
+pub enum Obstacle {
+    // it has to wait for the job with this ticket
     Wait(u32),
     Reject(Rejection),
 }
+
+// What the rules say of a read or a write that is not refused: a G where it is to be granted.
+pub type Verdict<G> = Result<G, Obstacle>;
 
 // The blockers of a write: the lowest ticket among them, and the lowest among those of the job's own group for which the
 // waiting rule forbids it to wait.

@@ -1,10 +1,11 @@
 -- What the jobs, the cells' records and the counters of a ledger agree in.
-use Rattle.std.specs.Prelude.{◌≡◌, ℕ, ◌+◌, ◌<◌, ◌≤◌, true, List, Some, Option, ◌≢◌}
+use Rattle.std.specs.Prelude.{◌≡◌, ℕ, ◌+◌, ◌<◌, ◌≤◌, true, List, length, Some, Option, ◌≢◌}
 use Rattle.schedule.specs.Cells.{is_reader, record_of}
 use Rattle.schedule.specs.declared.cell.CellRecord.{CellRecord}
 use Rattle.schedule.specs.declared.counters.Counters.{Counters}
 use Rattle.schedule.specs.declared.job.Job.{Job}
 use Rattle.schedule.specs.Jobs.{job_in, open_count}
+use Rattle.schedule.specs.States.{State}
 use Rattle.std.specs.Option.{option_map}
 
 -- the group of the open job in a row
@@ -41,6 +42,12 @@ AllCounted rows n = n.begun ≡ n.ended + n.given_up + n.rejected + open_count r
 -- the counters keep their bounds and agree with the rows
 abbrev pub CountersSound : List (Option Job) → Counters → Type 0
 CountersSound rows n = CountsBounded n × GroupSizeBounded n × AllCounted rows n
+
+-- at most 32 jobs are open, and the jobs, the cells' records and the counters agree with one another
+pub record StateSound (s : State) : Type 0 where
+  pub few_rows : length s.jobs ≤ 32
+  pub counters_sound : CountersSound s.jobs s.counters
+  pub cells_sound : CellsSound s.jobs s.cells
 
 -- ---- what a grant needs ----
 

@@ -1,30 +1,21 @@
 -- Waits go down an order of the open jobs, so there is no cycle of them, and they stop after 31 steps.
-use Rattle.std.proofs.Common.{◌≡◌, ℕ, zero, suc, ◌<◌, ◌≤◌, Bool, true, false, cond, ◌&&◌, eqb, ltb, ◌⊎◌, List, Some, None, Option, sym, refl, ◌∙◌, subst, inl, inr, arith}
+use Rattle.std.proofs.Common.{◌≡◌, ℕ, zero, suc, ◌<◌, ◌≤◌, Bool, true, false, cond, List, Some, None, Option, sym, refl, ◌∙◌, inl, inr, arith}
 use Rattle.schedule.specs.declared.job.Job.{Job}
 use Rattle.schedule.specs.Jobs.{party}
 use Rattle.schedule.specs.Verdicts.{May}
-use Rattle.std.proofs.lemmas.Bool.{and_from, and_parts, and_right, both_ways, cases_eq, eq-eqb, eqb-true, le-ltb, lt-ltb, ltb-true, or_cases, or_from, or_left, or_right}
+use Rattle.std.proofs.lemmas.Bool.{cases_eq}
+use Rattle.std.proofs.lemmas.Bool.Decides.{nat_tests}
 use Rattle.theorem.proofs.Invariant.{Invariant, View, below}
+use Rattle.theorem.proofs.Soundness.{same_job}
 use Rattle.theorem.specs.Histories.{Effect, is_open, wait_of}
 use Rattle.theorem.specs.Theorem.{Path, following, given, more, one, waits_for}
 use Rattle.waiting.specs.declared.party.Party.{Party}
 
--- `below` as a fact
-below_parts : (may : May) (a b : Job) → below may a b ≡ true
-    → (b.group < a.group) ⊎ ((b.group ≡ a.group) × (may (party a) (party b) ≡ true))
-below_parts may a b e =
-    elim (or_cases (ltb b.group a.group) (eqb b.group a.group && may (party a) (party b)) e) [
-      | inl p ↦ inl (ltb-true b.group a.group p)
-      | inr p ↦ let h = and_parts (eqb b.group a.group) (may (party a) (party b)) p in inr (eqb-true b.group a.group h.0, h.1)
-    ]
-
 pub below_earlier : (may : May) (a b : Job) → b.group < a.group → below may a b ≡ true
-below_earlier may a b h = or_left (ltb b.group a.group) (eqb b.group a.group && may (party a) (party b)) (lt-ltb b.group a.group h)
+below_earlier may a b h = grind (arith, nat_tests)
 
 pub below_same : (may : May) (a b : Job) → b.group ≡ a.group → may (party a) (party b) ≡ true → below may a b ≡ true
-below_same may a b h m =
-    or_right (ltb b.group a.group) (eqb b.group a.group && may (party a) (party b))
-    (and_from (eqb b.group a.group) (may (party a) (party b)) (eq-eqb b.group a.group h) m)
+below_same may a b h m = grind (arith, nat_tests)
 
 -- ---- counting ----
 
@@ -80,17 +71,7 @@ count_falls p r f h (suc n) k l e g =
 
 -- the open job that t waits for is an open job that its wait names
 waits_for_some : {C : Type 0} (E : List (Effect C)) (t u : ℕ) → waits_for E t ≡ Some u → (wait_of E t ≡ Some u) × (is_open E u ≡ true)
-waits_for_some E t u e = go (wait_of E t) refl e
-  where
-    at_open : (w : ℕ) (b : Bool) → is_open E w ≡ b → wait_of E t ≡ Some w → cond b (Some w) None ≡ Some u
-        → (wait_of E t ≡ Some u) × (is_open E u ≡ true)
-    at_open w true p h e = let x : w ≡ u = cc in (rw x at h, rw x at p)
-    at_open w false p h e = let z : ◌≡◌ {A = ℕ} 0 1 = cc in absurd (omega arith)
-
-    go : (o : Option ℕ) → wait_of E t ≡ o → given o None (λ w. cond (is_open E w) (Some w) None) ≡ Some u
-        → (wait_of E t ≡ Some u) × (is_open E u ≡ true)
-    go None h e = let z : ◌≡◌ {A = ℕ} 0 1 = cc in absurd (omega arith)
-    go (Some w) h e = at_open w (is_open E w) refl h e
+waits_for_some E t u e = grind arith
 
 -- following the waits stays among open jobs
 pub following_open : {C : Type 0} (E : List (Effect C)) (n t : ℕ) → is_open E t ≡ true → is_open E (following E n t) ≡ true
@@ -106,29 +87,12 @@ following_open E (suc n) t e = go (λ u. following_open E n u) (waits_for E t) r
 
 module _ (may : May) (irreflexive : (a : Party) → may a a ≡ false) (transitive : (a b c : Party) → may a b ≡ true → may b c ≡ true → may a c ≡ true) where
   below_irreflexive : (a : Job) → below may a a ≡ false
-  below_irreflexive a =
-      or_from (ltb a.group a.group) (eqb a.group a.group && may (party a) (party a))
-      (le-ltb a.group a.group (omega arith))
-      (and_right (eqb a.group a.group) (may (party a) (party a)) (irreflexive (party a)))
+  below_irreflexive a = grind (arith, nat_tests, irreflexive (party a))
 
   below_transitive : (a b c : Job) → below may a b ≡ true → below may b c ≡ true → below may a c ≡ true
-  below_transitive a b c e f =
-      elim (below_parts may a b e) [
-        | inl p ↦ elim (below_parts may b c f) [
-          | inl r ↦ below_earlier may a c (omega arith)
-          | inr r ↦ below_earlier may a c (omega arith)
-        ]
-        | inr p ↦ elim (below_parts may b c f) [
-          | inl r ↦ below_earlier may a c (omega arith)
-          | inr r ↦ below_same may a c (omega arith)
-              (transitive (party a) (party b) (party c) p.1 r.1)
-        ]
-      ]
+  below_transitive a b c e f = grind (arith, nat_tests, transitive (party a) (party b) (party c))
 
   module _ {C : Type 0} (first : List C) (E : List (Effect C)) (V : View) (main draft : List C) (I : Invariant may first E V main draft) where
-    pub same_job : (i k : ℕ) (j o : Job) → V.job i ≡ Some j → V.job k ≡ Some o → j.ticket ≡ o.ticket → j ≡ o
-    same_job i k j o at at' et = let e : i ≡ k = I.sound.apart i k j o at at' et in cc
-
     -- one step along the waits goes down
     step_down : (t u i : ℕ) (j : Job) → V.job i ≡ Some j → j.ticket ≡ t → waits_for E t ≡ Some u
         → (k : ℕ) × (o : Job) × (V.job k ≡ Some o) × (o.ticket ≡ u) × (below may j o ≡ true)
@@ -156,8 +120,8 @@ module _ (may : May) (irreflexive : (a : Party) → may a a ≡ false) (transiti
         let r = I.has_row t (path_open t t w) in
         let s = path_down t t w r.0 r.1 r.2 r.3 in
         let o = s.1 in
-        let same : r.1 ≡ o = same_job r.0 s.0 r.1 s.1 r.2 s.2 (r.3 ∙ sym s.3) in
-        both_ways (below may o o) (below_irreflexive o) (subst (λ (x : Job). below may x o ≡ true) same s.4)
+        let same : r.1 ≡ o = same_job V I.sound r.0 s.0 r.1 s.1 r.2 s.2 (r.3 ∙ sym s.3) in
+        let f = below_irreflexive o in cc
 
     -- how many open jobs lie below this one
     abbrev under : Job → ℕ

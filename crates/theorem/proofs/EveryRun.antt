@@ -8,7 +8,7 @@
 -- (Reading, Writing, Requests, with Blockers), and a fresh book has it (FreshBook). Waits go down an order of the open jobs,
 -- so they make no cycle and stop (Cycles).
 use lib.ListN.{length-replicate}
-use Rattle.std.proofs.Common.{◌≡◌, ℕ, true, false, List, ◌∷◌, ◌++◌, sym, refl, ap, ◌∙◌, subst}
+use Rattle.std.proofs.Common.{◌≡◌, ℕ, true, false, List, ◌∷◌, ◌++◌, refl}
 use Rattle.schedule.proofs.Sizes.{sized_after}
 use Rattle.schedule.specs.Books.{Book, size_over}
 use Rattle.schedule.specs.Cells.{fresh_record}
@@ -43,7 +43,7 @@ module _ {C : Type 0} (may : May) (first : List C) where
 
   run_sized : (h : History C) (b : Book C) → Run may first h b → Sized b
   run_sized h b (opened draft) = length-replicate (size_over first draft) fresh_record
-  run_sized h b (asked {h = h'} {b = b'} r q) = subst (λ (x : Book C). Sized x) (step_after b' q) (sized_after may b' q (run_sized h' b' r))
+  run_sized h b (asked {h = h'} {b = b'} r q) = rw (step_after b' q) at (sized_after may b' q (run_sized h' b' r))
 
   step_kept : (E : List (Effect C)) (b : Book C) → Kept may first E b → Sized b → (q : Request C)
       → Kept may first (effect (step may b q).0 ∷ E) (step may b q).1
@@ -67,13 +67,10 @@ module _ {C : Type 0} (may : May) (first : List C) where
       let I = (run_kept h b r).1 in
       let f = I.has_row t e in
       let j : Job = f.1 in
-      let g : j.group ≡ group_of E t = sym (I.told_group f.0 j f.2) ∙ ap (λ (x : ℕ). group_of E x) f.3 in
       let A : List (Access C) = serial_up_to E j.group ++ accesses_of E j.ticket in
-      let same : A ≡ serial_up_to E (group_of E t) ++ accesses_of E t =
-      ap (λ (x : ℕ). serial_up_to E x ++ accesses_of E j.ticket) g ∙ ap (λ (x : ℕ). serial_up_to E (group_of E t) ++ accesses_of E x) f.3 in
       let right : ReadsRight first A =
       right_append (serial_up_to E j.group) (accesses_of E j.ticket) first (I.serial_right j.group) (I.job_right f.0 j f.2) in
-      subst (λ (xs : List (Access C)). (row : List C) × Executes first xs row) same (row_after first A, executes A first (row_after first A) right refl)
+      rw (← f.3, I.told_group f.0 j f.2) (row_after first A, executes A first (row_after first A) right refl)
 
   -- Every wait was for a job that was open then. So if all open jobs ask and none is granted, rejected or refused, each waits
   -- for an open job; by the theorem this cannot be.
@@ -105,4 +102,4 @@ module _ (may : May) (irreflexive : (a : Party) → may a a ≡ false) (transiti
   -- on one request
   pub keeps_serializable : {C : Type 0} (b : Book C) (q : Request C) (e : Event C) (b' : Book C) → step may b q ≡ (e, b')
       → KeepsSerializable may e b b'
-  keeps_serializable {C = C} b q e b' p = subst (λ (x : Event C × Book C). KeepsSerializable may x.0 b x.1) p (after_step b q)
+  keeps_serializable {C = C} b q e b' p = rw p at (after_step b q)

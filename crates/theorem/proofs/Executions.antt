@@ -1,9 +1,11 @@
 -- Accesses carried out on a row of cells: what row they finish with, and whether each read gives the cell that it gave.
-use Rattle.std.proofs.Common.{◌≡◌, ℕ, zero, suc, ◌<◌, Bool, true, false, ◌||◌, eqb, ◌⊎◌, List, [], ◌∷◌, ◌++◌, length, set, Some, None, Option, sym, refl, ap, ◌∙◌, inl, inr, arith, length-set}
-use Rattle.std.proofs.lemmas.Bool.{cases_eq, eq-eqb, eqb-false, or_cases, or_left, or_parts, or_right}
+use Rattle.std.proofs.Common.{◌≡◌, ℕ, suc, ◌<◌, Bool, true, false, ◌||◌, eqb, ◌⊎◌, List, [], ◌∷◌, ◌++◌, length, set, Some, None, sym, refl, ◌∙◌, inr, arith, length-set}
+use Rattle.std.proofs.lemmas.Bool.{eq-eqb, or_right}
+use Rattle.std.proofs.lemmas.Grind.{common_steps}
+use Rattle.std.proofs.lemmas.Option.{gets}
 use Rattle.std.specs.List.{slice_get}
 use Rattle.theorem.specs.Histories.{Access, read_gave, wrote}
-use Rattle.theorem.specs.Theorem.{Executes, given}
+use Rattle.theorem.specs.Theorem.{Executes}
 
 module _ {C : Type 0} where
   -- the row with which the accesses finish
@@ -48,11 +50,6 @@ module _ {C : Type 0} where
   right_append (read_gave cell c ∷ xs) ys row r s = (r.0, right_append xs ys row r.1 s)
   right_append (wrote cell c ∷ xs) ys row r s = right_append xs ys (set row cell c) r s
 
-  pub right_front : (xs ys : List (Access C)) (row : List C) → ReadsRight row (xs ++ ys) → ReadsRight row xs
-  right_front [] ys row r = tt
-  right_front (read_gave cell c ∷ xs) ys row r = (r.0, right_front xs ys row r.1)
-  right_front (wrote cell c ∷ xs) ys row r = right_front xs ys (set row cell c) r
-
   pub right_back : (xs ys : List (Access C)) (row : List C) → ReadsRight row (xs ++ ys) → ReadsRight (row_after row xs) ys
   right_back [] ys row r = r
   right_back (read_gave cell c ∷ xs) ys row r = right_back xs ys row r.1
@@ -61,30 +58,14 @@ module _ {C : Type 0} where
   -- ---- cell by cell ----
 
   pub nth_set_same : (row : List C) (cell : ℕ) (c : C) → cell < length row → slice_get (set row cell c) cell ≡ Some c
-  nth_set_same [] cell c h = absurd (omega arith)
-  nth_set_same (x ∷ xs) zero c h = refl
-  nth_set_same (x ∷ xs) (suc cell) c h = nth_set_same xs cell c (omega arith)
+  nth_set_same row cell c h = grind (arith, gets, common_steps)
 
   pub nth_set_other : (row : List C) (cell : ℕ) (c : C) (q : ℕ) → (q ≡ cell → ⊥) → slice_get (set row cell c) q ≡ slice_get row q
-  nth_set_other [] cell c q h = refl
-  nth_set_other (x ∷ xs) zero c zero h = absurd (h refl)
-  nth_set_other (x ∷ xs) zero c (suc q) h = refl
-  nth_set_other (x ∷ xs) (suc cell) c zero h = refl
-  nth_set_other (x ∷ xs) (suc cell) c (suc q) h = nth_set_other xs cell c q (λ e. h (ap suc e))
-
-  nth_set_here : (row : List C) (cell : ℕ) (c : C) → slice_get (set row cell c) cell ≡ given (slice_get row cell) None (λ _. Some c)
-  nth_set_here [] cell c = refl
-  nth_set_here (x ∷ xs) zero c = refl
-  nth_set_here (x ∷ xs) (suc cell) c = nth_set_here xs cell c
+  nth_set_other row cell c q h = grind (arith, gets, common_steps)
 
   -- two rows alike at q stay so
-  pub set_alike : (row row' : List C) (cell : ℕ) (c : C) (q : ℕ) → slice_get row q ≡ slice_get row' q → slice_get (set row cell c) q ≡ slice_get (set row' cell c) q
-  set_alike row row' cell c q e =
-      elim (cases_eq q cell) [
-        | inl p ↦ let F : Option C → Option C = λ o. given o None (λ _. Some c) in
-            rw p (nth_set_here row cell c ∙ ap F (rw p at e) ∙ sym (nth_set_here row' cell c))
-        | inr n ↦ nth_set_other row cell c q n ∙ e ∙ sym (nth_set_other row' cell c q n)
-      ]
+  set_alike : (row row' : List C) (cell : ℕ) (c : C) (q : ℕ) → slice_get row q ≡ slice_get row' q → slice_get (set row cell c) q ≡ slice_get (set row' cell c) q
+  set_alike row row' cell c q e = grind (arith, gets, common_steps)
 
   pub row_after_alike : (xs : List (Access C)) (row row' : List C) (q : ℕ) → slice_get row q ≡ slice_get row' q
       → slice_get (row_after row xs) q ≡ slice_get (row_after row' xs) q
@@ -92,19 +73,12 @@ module _ {C : Type 0} where
   row_after_alike (read_gave cell c ∷ xs) row row' q e = row_after_alike xs row row' q e
   row_after_alike (wrote cell c ∷ xs) row row' q e = row_after_alike xs (set row cell c) (set row' cell c) q (set_alike row row' cell c q e)
 
-  pub row_after_untouched : (xs : List (Access C)) (row : List C) (q : ℕ) → touches xs q ≡ false → slice_get (row_after row xs) q ≡ slice_get row q
-  row_after_untouched [] row q e = refl
-  row_after_untouched (read_gave cell c ∷ xs) row q e = row_after_untouched xs row q (or_parts (eqb cell q) (touches xs q) e).1
-  row_after_untouched (wrote cell c ∷ xs) row q e =
-      let h = or_parts (eqb cell q) (touches xs q) e in
-      row_after_untouched xs (set row cell c) q h.1 ∙ nth_set_other row cell c q (λ p. eqb-false cell q h.0 (sym p))
-
   -- reads are as right on another row that is alike wherever the accesses touch
   pub right_alike : (xs : List (Access C)) (row row' : List C) → ((q : ℕ) → touches xs q ≡ true → slice_get row q ≡ slice_get row' q)
       → ReadsRight row xs → ReadsRight row' xs
   right_alike [] row row' h r = tt
   right_alike (read_gave cell c ∷ xs) row row' h r = (
-    sym (h cell (or_left (eqb cell cell) (touches xs cell) (eq-eqb cell cell refl))) ∙ r.0,
+    sym (h cell (rw (eq-eqb cell cell refl))) ∙ r.0,
     right_alike xs row row' (λ q e. h q (or_right (eqb cell q) (touches xs q) e)) r.1,
   )
   right_alike (wrote cell c ∷ xs) row row' h r =
@@ -118,11 +92,4 @@ module _ {C : Type 0} where
 
   pub touches_append : (xs ys : List (Access C)) (q : ℕ) → touches (xs ++ ys) q ≡ true → (touches xs q ≡ true) ⊎ (touches ys q ≡ true)
   touches_append [] ys q e = inr e
-  touches_append (a ∷ xs) ys q e =
-      elim (or_cases (eqb (cell_of a) q) (touches (xs ++ ys) q) e) [
-        | inl p ↦ inl (or_left (eqb (cell_of a) q) (touches xs q) p)
-        | inr p ↦ elim (touches_append xs ys q p) [
-          | inl r ↦ inl (or_right (eqb (cell_of a) q) (touches xs q) r)
-          | inr r ↦ inr r
-        ]
-      ]
+  touches_append (a ∷ xs) ys q e = let h = touches_append xs ys q in grind arith

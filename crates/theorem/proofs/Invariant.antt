@@ -56,8 +56,8 @@ pub record Sound (V : View) : Type 0 where
   pub reader_open : (cell i : ℕ) → V.reader cell i ≡ true → V.job i ≡ None → ⊥
   -- no reader's group is above the read mark, no mark is above the writer's group, other readers are of earlier groups
   pub reader_mark : (cell i : ℕ) (j : Job) → V.job i ≡ Some j → V.reader cell i ≡ true → j.group ≤ V.read_mark cell
-  pub writer_marks : (cell i : ℕ) (j : Job) → V.job i ≡ Some j → V.writer cell ≡ Some i
-      → (V.read_mark cell ≤ j.group) × (V.write_mark cell ≤ j.group)
+  pub above_reads : (cell i : ℕ) (j : Job) → V.job i ≡ Some j → V.writer cell ≡ Some i → V.read_mark cell ≤ j.group
+  pub above_writes : (cell i : ℕ) (j : Job) → V.job i ≡ Some j → V.writer cell ≡ Some i → V.write_mark cell ≤ j.group
   pub writer_last : (cell i k : ℕ) (j o : Job) → V.job i ≡ Some j → V.writer cell ≡ Some i → V.job k ≡ Some o → (k ≡ i → ⊥)
       → V.reader cell k ≡ true → o.group < j.group
 

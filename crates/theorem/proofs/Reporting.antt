@@ -1,5 +1,5 @@
 -- The book's report is what the answers told, over every run.
-use Rattle.std.proofs.Common.{◌≡◌, ℕ, zero, suc, ◌+◌, ltb, leb, List, [], ◌∷◌, length, set, replicate, Some, None, Ok, Err, Option, Result, sym, refl, ap, ◌∙◌, subst}
+use Rattle.std.proofs.Common.{◌≡◌, ℕ, zero, suc, ◌+◌, leb, List, [], ◌∷◌, length, replicate, Some, None, Ok, Err, Option, Result, sym, refl, ap, ◌∙◌, arith}
 use Rattle.schedule.proofs.Admitting.{admitted_ok}
 use Rattle.schedule.specs.Books.{Book, book_begin, fetched, fresh_book, granted_cell}
 use Rattle.schedule.specs.Cells.{record_of}
@@ -9,27 +9,26 @@ use Rattle.schedule.specs.declared.counters.Closing.TheVariants as closing
 use Rattle.schedule.specs.declared.counters.Counters.{Counters}
 use Rattle.schedule.specs.declared.counters.Report.{Report}
 use Rattle.schedule.specs.declared.job.Job.{Job}
+use Rattle.schedule.specs.declared.job.Seated.{Seated}
 use Rattle.schedule.specs.declared.job.Kind.TheVariants as kind
 use Rattle.schedule.specs.declared.request.Event.TheVariants as event
 use Rattle.schedule.specs.declared.request.Request.{Request}
 use Rattle.schedule.specs.declared.request.Request.TheVariants as request
 use Rattle.schedule.specs.declared.verdict.Source.{Source}
 use Rattle.schedule.specs.declared.verdict.Source.TheVariants as source
-use Rattle.schedule.specs.declared.verdict.Verdict.{Verdict}
-use Rattle.schedule.specs.declared.verdict.Verdict.TheVariants as verdict
+use Rattle.schedule.specs.Verdicts.{May, Verdict, read_verdict, write_verdict}
+use Rattle.schedule.specs.declared.verdict.Obstacle.TheVariants as obstacle
 use Rattle.schedule.specs.Jobs.{closed_rows, find, holds, job_in, vacant}
 use Rattle.schedule.specs.States.{State, report_of, waiting}
 use Rattle.schedule.specs.Steps.{Begun, admitted, begin_in, begin_with, end_on, ending, give_up_in, group_size_step, read_by, read_on, write_by, write_on}
-use Rattle.schedule.specs.Verdicts.{May, read_verdict, write_verdict}
 use Rattle.std.proofs.lemmas.Bool.{cond_both}
 use Rattle.std.specs.List.{slice_get}
 use Rattle.theorem.proofs.EveryRun.{run_kept}
-use Rattle.theorem.proofs.Invariant.{bare}
 use Rattle.theorem.proofs.Kept.{Kept}
 use Rattle.theorem.proofs.Requests.{ending_ok}
-use Rattle.theorem.proofs.Tables.{found_vacant, not_both}
+use Rattle.theorem.proofs.Tables.{found_vacant}
 use Rattle.theorem.proofs.Tallies.{Figures, Tallied, Tally, begins, closes, figures_of, told_figures, waited}
-use Rattle.theorem.specs.Histories.{Effect, History, effect, effects, is_open, leaves, opens, was_rejected}
+use Rattle.theorem.specs.Histories.{Effect, History, effect, effects, is_open, leaves, was_rejected}
 use Rattle.theorem.specs.Reports.{ReportsWhatWasTold, tickets_given, told_report}
 use Rattle.theorem.specs.Theorem.{Run, asked, opened, step}
 use Rattle.waiting.specs.declared.class.Class.{Class}
@@ -37,9 +36,7 @@ use Rattle.waiting.specs.Numbers.{class_of}
 
 -- a begin gives the next ticket, and changes no other figure
 joined_figures : (n : Counters) → (n.begun + 1, n.ended, n.given_up, n.rejected) ≡ figures_of (joined n)
-joined_figures n =
-    cond_both (ltb n.members n.group_size) _ _ (λ (x : Counters). (n.begun + 1, n.ended, n.given_up, n.rejected) ≡ figures_of x)
-    (λ b. refl) (λ b. refl)
+joined_figures n = grind arith
 
 module _ {C : Type 0} (may : May) (first : List C) (E : List (Effect C)) (b : Book C) (K : Kept may first E b) (T : Tallied E b.state) where
   abbrev s : State
@@ -64,8 +61,7 @@ module _ {C : Type 0} (may : May) (first : List C) (E : List (Effect C)) (b : Bo
         let n = joined s.counters in
         let j : Job = record { ticket = n.begun; class = class; group = n.group; place = n.members; wait = None } in
         let figures = joined_figures s.counters in
-        subst (λ (x : Figures). Tally x (set s.jobs row (Some j)) (told_figures (opens n.begun n.group ∷ E)) (n.begun ∷ tickets_given E) (is_open (opens n.begun n.group ∷ E)))
-        figures (begins T row f.0 f.1 j (ap (λ (x : Figures). x.0) (sym figures)))
+        rw (← figures) (begins T row f.0 f.1 j (ap (λ (x : Figures). x.0) (sym figures)))
 
     by_class : (o : Option Class) → Begins (begin_with s o)
     by_class None = refused _
@@ -89,37 +85,37 @@ module _ {C : Type 0} (may : May) (first : List C) (E : List (Effect C)) (b : Bo
 
     read_decided : (row group : ℕ) → find (holds ticket) s.jobs ≡ Some row → (v : Verdict Source)
         → Tallied (effect (event.Read ticket cell (fetched b.main b.draft cell (read_by s row ticket group cell v).0)) ∷ E) (read_by s row ticket group cell v).1
-    read_decided row group f (verdict.Grant source.Main) = read_fetched row (slice_get b.main cell)
-    read_decided row group f (verdict.Grant source.Draft) = read_fetched row (slice_get b.draft cell)
-    read_decided row group f (verdict.Wait blocker) = waited T row _
-    read_decided row group f (verdict.Reject why) = rejects row f
+    read_decided row group f (Ok source.Main) = read_fetched row (slice_get b.main cell)
+    read_decided row group f (Ok source.Draft) = read_fetched row (slice_get b.draft cell)
+    read_decided row group f (Err (obstacle.Wait blocker)) = waited T row _
+    read_decided row group f (Err (obstacle.Reject why)) = rejects row f
 
-    read_answered : (a : Result (ℕ × Job) Refusal) → admitted (length s.cells) s.jobs ticket cell kind.Read ≡ a
+    read_answered : (a : Result Seated Refusal) → admitted (length s.cells) s.jobs ticket cell kind.Read ≡ a
         → Tallied (effect (event.Read ticket cell (fetched b.main b.draft cell (read_on may s ticket cell a).0)) ∷ E) (read_on may s ticket cell a).1
     read_answered (Err why) e = T
     read_answered (Ok p) e =
-        read_decided p.0 p.1.group (admitted_ok (length s.cells) s.jobs ticket cell kind.Read p e).found
-        (read_verdict may s.jobs (record_of s.cells cell) p.0 p.1)
+        read_decided p.row p.job.group (admitted_ok (length s.cells) s.jobs ticket cell kind.Read p e).found
+        (read_verdict may s.jobs (record_of s.cells cell) p.row p.job)
 
     write_decided : (c : C) (row : ℕ) → find (holds ticket) s.jobs ≡ Some row → (v : Verdict (Unit {0}))
         → Tallied (effect (event.Write ticket cell c (write_by s row ticket cell v).0) ∷ E) (write_by s row ticket cell v).1
-    write_decided c row f (verdict.Grant u) = waited T row None
-    write_decided c row f (verdict.Wait blocker) = waited T row _
-    write_decided c row f (verdict.Reject why) = rejects row f
+    write_decided c row f (Ok u) = waited T row None
+    write_decided c row f (Err (obstacle.Wait blocker)) = waited T row _
+    write_decided c row f (Err (obstacle.Reject why)) = rejects row f
 
-    write_answered : (c : C) (a : Result (ℕ × Job) Refusal) → admitted (length s.cells) s.jobs ticket cell kind.Write ≡ a
+    write_answered : (c : C) (a : Result Seated Refusal) → admitted (length s.cells) s.jobs ticket cell kind.Write ≡ a
         → Tallied (effect (event.Write ticket cell c (write_on may s ticket cell a).0) ∷ E) (write_on may s ticket cell a).1
     write_answered c (Err why) e = T
     write_answered c (Ok p) e =
-        write_decided c p.0 (admitted_ok (length s.cells) s.jobs ticket cell kind.Write p e).found
-        (write_verdict may s.jobs (record_of s.cells cell) p.0 p.1)
+        write_decided c p.row (admitted_ok (length s.cells) s.jobs ticket cell kind.Write p e).found
+        (write_verdict may s.jobs (record_of s.cells cell) p.row p.job)
 
   -- ---- end, give up and group size ----
 
-  end_answered : (ticket : ℕ) (a : Result (ℕ × Job) Refusal) → ending s.jobs ticket ≡ a
+  end_answered : (ticket : ℕ) (a : Result Seated Refusal) → ending s.jobs ticket ≡ a
       → Tallied (effect (event.End ticket (end_on s ticket a).0) ∷ E) (end_on s ticket a).1
   end_answered ticket (Err why) e = T
-  end_answered ticket (Ok p) e = closes T K.1.sound.apart ticket p.0 (ending_ok s.jobs ticket p e).0 (λ n. (n.0, n.1 + 1, n.2, n.3)) refl
+  end_answered ticket (Ok p) e = closes T K.1.sound.apart ticket p.row (ending_ok s.jobs ticket p e).row_found (λ n. (n.0, n.1 + 1, n.2, n.3)) refl
 
   give_up_answered : (ticket : ℕ) (o : Option ℕ) → find (holds ticket) s.jobs ≡ o
       → Tallied (effect (event.GiveUp ticket (give_up_in s ticket o).0) ∷ E) (give_up_in s ticket o).1
@@ -145,13 +141,7 @@ module _ {C : Type 0} (may : May) (first : List C) (E : List (Effect C)) (b : Bo
 
 module _ (may : May) {C : Type 0} where
   fresh_tallied : (first draft : List C) → Tallied {C = C} [] (fresh_book first draft).state
-  fresh_tallied first draft =
-      record {
-        counted = refl;
-        given = refl;
-        known = λ i j at. not_both _ j (ap bare (no_job 32 i)) at;
-        as_many = refl;
-      }
+  fresh_tallied first draft = record { counted = refl; given = refl; known = λ i j at. let n = no_job 32 i in cc; as_many = refl }
     where
       no_job : (n i : ℕ) → job_in (replicate n None) i ≡ None
       no_job zero i = refl

@@ -1,14 +1,15 @@
 -- Begin, end, give up and group size keep the invariant, whatever the answer.
-use Rattle.std.proofs.Common.{◌≡◌, ℕ, Bool, true, false, cond, leb, List, ◌∷◌, is_some, Some, None, Ok, Err, Option, Result, refl, subst, arith}
+use Rattle.std.proofs.Common.{◌≡◌, ℕ, leb, List, ◌∷◌, Some, None, Ok, Err, Option, Result, refl, arith}
+use Rattle.schedule.proofs.Admitting.{seated_ok}
 use Rattle.schedule.specs.Books.{Book, book, book_begin, book_end, book_give_up, book_group_size, kept}
 use Rattle.schedule.specs.declared.answer.Refusal.{Refusal}
-use Rattle.schedule.specs.declared.answer.Refusal.TheVariants as refusal
 use Rattle.schedule.specs.declared.counters.Closing.TheVariants as closing
 use Rattle.schedule.specs.declared.job.Job.{Job}
+use Rattle.schedule.specs.declared.job.Seated.{Seated}
 use Rattle.schedule.specs.declared.request.Event.TheVariants as event
-use Rattle.schedule.specs.Jobs.{find, holds, job_in, vacant}
+use Rattle.schedule.specs.Jobs.{SeatedIn, find, holds, vacant}
 use Rattle.schedule.specs.States.{State, resizing}
-use Rattle.schedule.specs.Steps.{Begun, begin_in, begin_with, end_on, ending, ending_as, ending_in, give_up_in, group_size_step}
+use Rattle.schedule.specs.Steps.{Begun, begin_in, begin_with, end_on, ending, ending_as, give_up_in, group_size_step, seated}
 use Rattle.schedule.specs.Verdicts.{May}
 use Rattle.std.proofs.lemmas.Bool.{cond_both}
 use Rattle.theorem.proofs.Kept.{Kept, stays}
@@ -21,27 +22,13 @@ use Rattle.waiting.specs.Numbers.{class_of}
 
 -- ---- the job that ends ----
 
-module _ (rows : List (Option Job)) (ticket : ℕ) where
-  -- it lies in the row found for the ticket
-  Ending : ℕ × Job → Type 0
-  Ending p = (find (holds ticket) rows ≡ Some p.0) × (job_in rows p.0 ≡ Some p.1)
-
-  pub ending_ok : (p : ℕ × Job) → ending rows ticket ≡ Ok p → (find (holds ticket) rows ≡ Some p.0) × (job_in rows p.0 ≡ Some p.1)
-  unfolding Ending
-  ending_ok p e = by_row (find (holds ticket) rows) refl e
-    where
-      by_wait : (row : ℕ) (j : Job) (w : Bool) → find (holds ticket) rows ≡ Some row → job_in rows row ≡ Some j
-          → cond w (Err refusal.JobWaits) (Ok (row, j)) ≡ Ok p → Ending p
-      by_wait row j true f h g = absurd (let z : ◌≡◌ {A = ℕ} 0 1 = cc in omega arith)
-      by_wait row j false f h g = let q : (row, j) ≡ p = cc in subst (λ (x : ℕ × Job). Ending x) q (f, h)
-
-      by_job : (row : ℕ) (o : Option Job) → find (holds ticket) rows ≡ Some row → job_in rows row ≡ o → ending_as row o ≡ Ok p → Ending p
-      by_job row None f h g = absurd (let z : ◌≡◌ {A = ℕ} 0 1 = cc in omega arith)
-      by_job row (Some j) f h g = by_wait row j (is_some j.wait) f h g
-
-      by_row : (o : Option ℕ) → find (holds ticket) rows ≡ o → ending_in rows o ≡ Ok p → Ending p
-      by_row None f g = absurd (let z : ◌≡◌ {A = ℕ} 0 1 = cc in omega arith)
-      by_row (Some row) f g = by_job row (job_in rows row) f refl g
+-- it lies in the row found for the ticket
+pub ending_ok : (rows : List (Option Job)) (ticket : ℕ) (p : Seated) → ending rows ticket ≡ Ok p → SeatedIn rows ticket p
+ending_ok rows ticket p e = by_seat (seated rows ticket) refl e
+  where
+    by_seat : (r : Result Seated Refusal) → seated rows ticket ≡ r → ending_as r ≡ Ok p → SeatedIn rows ticket p
+    by_seat (Err why) s g = cc
+    by_seat (Ok q) s g = let e : q ≡ p = grind arith in rw (← e) (seated_ok rows ticket q s)
 
 module _ {C : Type 0} (may : May) (first : List C) (E : List (Effect C)) (b : Book C) (K : Kept may first E b) where
   abbrev s : State
@@ -77,13 +64,13 @@ module _ {C : Type 0} (may : May) (first : List C) (E : List (Effect C)) (b : Bo
   -- ---- end ----
 
   module _ (ticket : ℕ) where
-    by_ending : (a : Result (ℕ × Job) Refusal) → ending s.jobs ticket ≡ a
+    by_ending : (a : Result Seated Refusal) → ending s.jobs ticket ≡ a
         → Kept may first (effect (event.End ticket (end_on s ticket a).0) ∷ E) (book (kept b a) b.draft (end_on s ticket a).1)
     by_ending (Err why) e = stays may first E b K
     by_ending (Ok p) e =
         let f = ending_ok s.jobs ticket p e in
-        end_kept may first E s b.main b.draft K.0 K.1 p.0 p.1 f.1 ticket
-        (found_ticket s.jobs ticket p.0 p.1 f.0 f.1)
+        end_kept may first E s b.main b.draft K.0 K.1 p.row p.job f.job_there ticket
+        (found_ticket s.jobs ticket p.row p.job f.row_found f.job_there)
 
     pub end_request_kept : Kept may first (effect (event.End ticket (book_end b ticket).0) ∷ E) (book_end b ticket).1
     end_request_kept = by_ending (ending s.jobs ticket) refl

@@ -1,80 +1,52 @@
 -- The state's own changes where a job leaves or ends keep its sizes and the invariant.
-use Rattle.std.proofs.Common.{◌≡◌, ℕ, Bool, false, cond, List, ◌∷◌, length, get_or, Some, None, sym, refl, ap, ◌∙◌, subst, arith, length-set}
+use Rattle.std.proofs.Common.{◌≡◌, ℕ, false, List, ◌∷◌, length, set, Some, None, refl, ap, ◌∙◌, subst, arith, length-set}
 use Rattle.schedule.specs.Books.{carried}
-use Rattle.schedule.specs.Cells.{all_stamped, is_reader, is_writer, record_of, released, stamped}
+use Rattle.schedule.specs.Cells.{all_stamped, no_record, other_writer, record_of, released, stamped}
 use Rattle.schedule.specs.Counting.{left}
 use Rattle.schedule.specs.declared.cell.CellRecord.{CellRecord}
 use Rattle.schedule.specs.declared.counters.Closing.{Closing}
-use Rattle.schedule.specs.declared.counters.Closing.TheVariants as closing
 use Rattle.schedule.specs.declared.counters.Counters.{Counters}
 use Rattle.schedule.specs.declared.job.Job.{Job}
-use Rattle.schedule.specs.Jobs.{job_in, with_wait}
+use Rattle.schedule.specs.Jobs.{closed_rows, job_in, with_wait}
 use Rattle.schedule.specs.States.{State, closed, finished}
 use Rattle.schedule.specs.Verdicts.{May}
 use Rattle.std.proofs.lemmas.List.{length-map}
-use Rattle.std.proofs.lemmas.Bool.{cond-false, cond-true}
+use Rattle.std.proofs.Math.ListN.{get_or-map}
 use Rattle.theorem.proofs.Closing.{ends_kept, leaves_kept}
 use Rattle.theorem.proofs.Invariant.{Invariant, View, bare, view}
 use Rattle.theorem.proofs.Shapes.{Shape, alike}
-use Rattle.theorem.proofs.Soundness.{Gone, after_close, closes_sound}
-use Rattle.theorem.proofs.Tables.{carried_else, carried_long, carried_mine, closed_else, closed_length, freed, is_writer_from, is_writer_not, other_writer_is, other_writer_was, released_at, released_reader_is, released_reader_was, stamped_at}
+use Rattle.theorem.proofs.Soundness.{Gone, after_close}
+use Rattle.theorem.proofs.Tables.{carried_else, carried_long, carried_mine, closed_else, closed_length, freed, is_writer_from, is_writer_not, other_writer_is, other_writer_was, released_reader_is, released_reader_was}
 use Rattle.theorem.specs.Histories.{Effect, Leaving, ends, leaves}
 
--- a closing counts no begin and opens no group
-left_group : (n : Counters) (how : Closing) → n.group ≡ (left n how).group
-left_group n closing.Ended = refl
-left_group n closing.GaveUp = refl
-left_group n closing.Rejected = refl
+-- a closing opens no group and counts no begin
+left_same : (n : Counters) (how : Closing) → (n.group ≡ (left n how).group) × (n.begun ≡ (left n how).begun)
+left_same n how = grind arith
 
-left_begun : (n : Counters) (how : Closing) → n.begun ≡ (left n how).begun
-left_begun n closing.Ended = refl
-left_begun n closing.GaveUp = refl
-left_begun n closing.Rejected = refl
+-- the records of the cells once the job in row i has closed: as many, and none has it as its writer or a reader
+record Closed (s : State) (i : ℕ) (cells : List CellRecord) : Type 0 where
+  long : length cells ≡ length s.cells
+  writers : (q : ℕ) → (record_of cells q).writer ≡ other_writer i (record_of s.cells q).writer
+  readers : (q : ℕ) → (record_of cells q).readers ≡ set (record_of s.cells q).readers i false
 
--- ---- the job t in row i closes, over records with the same readers and writers ----
-
-module _ (s : State) (S : Shape s) (i t : ℕ) (how : Closing) (cells : List CellRecord) (same_length : length cells ≡ length s.cells)
-    (same_writer : (q : ℕ) → (record_of cells q).writer ≡ (record_of s.cells q).writer)
-    (same_readers : (q : ℕ) → (record_of cells q).readers ≡ (record_of s.cells q).readers) where
-  abbrev s₁ : State
-  s₁ = closed (record { jobs = s.jobs; cells = cells; counters = s.counters }) i t how
-
-  look : (q : ℕ) → record_of s₁.cells q ≡ released i (record_of cells q)
-  look q = released_at i cells q
-
+module _ (s : State) (S : Shape s) (i t : ℕ) (s₁ : State) (rows : s₁.jobs ≡ closed_rows s.jobs i t) (P : Closed s i s₁.cells) where
   closed_shape : Shape s₁
   closed_shape =
       record {
-        rows = closed_length s.jobs i t ∙ S.rows;
-        readers = λ q l. let m = length-map cells (released i) in
-            ap (λ (r : CellRecord). length r.readers) (look q)
-            ∙ length-set (record_of cells q).readers i false
-            ∙ ap (λ (xs : List Bool). length xs) (same_readers q)
-            ∙ S.readers q (omega arith);
+        rows = ap length rows ∙ closed_length s.jobs i t ∙ S.rows;
+        readers = λ q l. let m = P.long in rw (P.readers q, length-set) (S.readers q (omega arith));
       }
 
   closed_gone : Gone (view s) i (view s₁).job (view s₁).writer (view s₁).reader
   closed_gone =
       record {
-        job_gone = ap bare (freed s.jobs i t);
-        job_else = λ k n. closed_else s.jobs i t k n;
-        writer_was = λ q k w.
-            let r = other_writer_was i (record_of cells q).writer k (sym (ap (λ (x : CellRecord). x.writer) (look q)) ∙ w) in
-            (sym (same_writer q) ∙ r.0, r.1);
-        writer_is = λ q k w n. ap (λ (x : CellRecord). x.writer) (look q) ∙ other_writer_is i (record_of cells q).writer k (same_writer q ∙ w) n;
-        reader_was = λ q k w.
-            let r = released_reader_was i (record_of cells q) k (sym (ap (λ (x : CellRecord). is_reader x k) (look q)) ∙ w) in
-            (sym (ap (λ (xs : List Bool). get_or xs k false) (same_readers q)) ∙ r.0, r.1);
-        reader_is = λ q k w n.
-            ap (λ (x : CellRecord). is_reader x k) (look q)
-            ∙ released_reader_is i (record_of cells q) k (ap (λ (xs : List Bool). get_or xs k false) (same_readers q) ∙ w) n;
+        job_gone = rw (rows, freed s.jobs i t);
+        job_else = λ k n. rw rows (closed_else s.jobs i t k n);
+        writer_was = λ q k w. other_writer_was i (record_of s.cells q).writer k (rw (P.writers q) at w);
+        writer_is = λ q k w n. rw (P.writers q) (other_writer_is i (record_of s.cells q).writer k w n);
+        reader_was = λ q k r. released_reader_was i (record_of s.cells q) k (rw (P.readers q) at r);
+        reader_is = λ q k r n. rw (P.readers q) (released_reader_is i (record_of s.cells q) k r n);
       }
-
-  read_mark_at : (q : ℕ) → (record_of cells q).read_mark ≡ (view s₁).read_mark q
-  read_mark_at q = sym (ap (λ (x : CellRecord). x.read_mark) (look q))
-
-  write_mark_at : (q : ℕ) → (record_of cells q).write_mark ≡ (view s₁).write_mark q
-  write_mark_at q = sym (ap (λ (x : CellRecord). x.write_mark) (look q))
 
 module _ {C : Type 0} (may : May) (first : List C) (E : List (Effect C)) (s : State) (main draft : List C) (S : Shape s) (I : Invariant may first E (view s) main draft)
     (i : ℕ) (j : Job) (at : job_in s.jobs i ≡ Some j) (t : ℕ) (ticket : j.ticket ≡ t) where
@@ -87,54 +59,41 @@ module _ {C : Type 0} (may : May) (first : List C) (E : List (Effect C)) (s : St
     abbrev l₁ : State
     l₁ = closed s i t how
 
-    abbrev V₁ : View
-    V₁ = after_close (view s) (view l₁).job (view l₁).writer (view l₁).reader (view s).write_mark
+    left_at : (q : ℕ) → record_of l₁.cells q ≡ released i (record_of s.cells q)
+    left_at q = get_or-map (released i) s.cells q no_record
+
+    left_closed : Closed s i l₁.cells
+    left_closed = record { long = length-map s.cells (released i); writers = λ q. rw (left_at q); readers = λ q. rw (left_at q) }
 
     gone : Gone (view s) i (view l₁).job (view l₁).writer (view l₁).reader
-    gone = closed_gone s S i t how s.cells refl (λ q. refl) (λ q. refl)
+    gone = closed_gone s S i t l₁ refl left_closed
 
     pub leave_kept : Shape l₁ × Invariant may first (leaves t told ∷ E) (view l₁) main draft
     leave_kept = (
-      closed_shape s S i t how s.cells refl (λ q. refl) (λ q. refl),
+      closed_shape s S i t l₁ refl left_closed,
       subst (λ (V : View). Invariant may first (leaves t told ∷ E) V main draft)
-          (alike V₁ (view l₁) (λ k. refl) (read_mark_at s S i t how s.cells refl (λ q. refl) (λ q. refl))
-          (write_mark_at s S i t how s.cells refl (λ q. refl) (λ q. refl)) (λ q. refl) (λ q k. refl)
-          (left_group s.counters how) (left_begun s.counters how))
-          (subst (λ (x : ℕ). Invariant may first (leaves x told ∷ E) V₁ main draft) ticket
-          (leaves_kept may first E (view s) main draft I i (with_wait None j) here (view l₁).job (view l₁).writer (view l₁).reader gone told
-          (closes_sound (view s) I.sound i (view l₁).job (view l₁).writer (view l₁).reader (view s).write_mark gone (λ q n. refl)))),
+          (alike (after_close (view s) (view l₁).job (view l₁).writer (view l₁).reader (view s).write_mark) (view l₁)
+          (λ k. refl) (λ q. rw (left_at q)) (λ q. rw (left_at q)) (λ q. refl) (λ q k. refl)
+          (left_same s.counters how).0 (left_same s.counters how).1)
+          (rw ticket at (leaves_kept may first E (view s) main draft I i (with_wait None j) here (view l₁).job (view l₁).writer (view l₁).reader gone told)),
     )
 
   -- ---- it ends ----
 
-  abbrev stamps : List CellRecord
-  stamps = all_stamped s.cells i j.group
-
   abbrev e₁ : State
   e₁ = finished s i t j.group
 
-  stamp_at : (q : ℕ) → record_of stamps q ≡ stamped i j.group (record_of s.cells q)
-  stamp_at q = stamped_at i j.group s.cells q
+  end_at : (q : ℕ) → record_of e₁.cells q ≡ released i (stamped i j.group (record_of s.cells q))
+  end_at q = get_or-map (released i) (all_stamped s.cells i j.group) q no_record ∙ ap (released i) (get_or-map (stamped i j.group) s.cells q no_record)
 
-  long : length stamps ≡ length s.cells
-  long = length-map s.cells (stamped i j.group)
-
-  stamp_writer : (q : ℕ) → (record_of stamps q).writer ≡ (record_of s.cells q).writer
-  stamp_writer q = ap (λ (x : CellRecord). x.writer) (stamp_at q)
-
-  stamp_readers : (q : ℕ) → (record_of stamps q).readers ≡ (record_of s.cells q).readers
-  stamp_readers q = ap (λ (x : CellRecord). x.readers) (stamp_at q)
-
-  write_mark_now : (q : ℕ) → (view e₁).write_mark q ≡ cond (is_writer ((view s).writer q) i) j.group ((view s).write_mark q)
-  write_mark_now q = sym (write_mark_at s S i t closing.Ended stamps long stamp_writer stamp_readers q) ∙ ap (λ (x : CellRecord). x.write_mark) (stamp_at q)
+  end_closed : Closed s i e₁.cells
+  end_closed = record { long = simp length-map; writers = λ q. rw (end_at q); readers = λ q. rw (end_at q) }
 
   write_mark_mine : (q : ℕ) → (view s).writer q ≡ Some i → (view e₁).write_mark q ≡ j.group
-  write_mark_mine q w =
-      write_mark_now q ∙ cond-true (is_writer ((view s).writer q) i) j.group ((view s).write_mark q) (is_writer_from ((view s).writer q) i w)
+  write_mark_mine q w = rw (end_at q, is_writer_from ((view s).writer q) i w)
 
   write_mark_else : (q : ℕ) → ((view s).writer q ≡ Some i → ⊥) → (view e₁).write_mark q ≡ (view s).write_mark q
-  write_mark_else q n =
-      write_mark_now q ∙ cond-false (is_writer ((view s).writer q) i) j.group ((view s).write_mark q) (is_writer_not ((view s).writer q) i n)
+  write_mark_else q n = rw (end_at q, is_writer_not ((view s).writer q) i n)
 
   abbrev main₁ : List C
   main₁ = carried (length s.cells) s.cells i main draft
@@ -143,7 +102,7 @@ module _ {C : Type 0} (may : May) (first : List C) (E : List (Effect C)) (s : St
   V₂ = after_close (view s) (view e₁).job (view e₁).writer (view e₁).reader (view e₁).write_mark
 
   end_gone : Gone (view s) i (view e₁).job (view e₁).writer (view e₁).reader
-  end_gone = closed_gone s S i t closing.Ended stamps long stamp_writer stamp_readers
+  end_gone = closed_gone s S i t e₁ refl end_closed
 
   end_invariant : Invariant may first (ends j.ticket ∷ E) V₂ main₁ draft
   end_invariant =
@@ -153,14 +112,10 @@ module _ {C : Type 0} (may : May) (first : List C) (E : List (Effect C)) (s : St
       (let l = I.writer_inside q i w in let m = I.main_length in omega arith) (I.writer_in_draft q i w))
       (λ q n. carried_else i s.cells main draft q (is_writer_not ((view s).writer q) i n))
       (carried_long i s.cells main draft)
-      (closes_sound (view s) I.sound i (view e₁).job (view e₁).writer (view e₁).reader (view e₁).write_mark end_gone write_mark_else)
 
   pub end_kept : Shape e₁ × Invariant may first (ends t ∷ E) (view e₁) main₁ draft
   end_kept = (
-    closed_shape s S i t closing.Ended stamps long stamp_writer stamp_readers,
+    closed_shape s S i t e₁ refl end_closed,
     subst (λ (V : View). Invariant may first (ends t ∷ E) V main₁ draft)
-        (alike V₂ (view e₁) (λ k. refl)
-        (λ q. sym (ap (λ (x : CellRecord). x.read_mark) (stamp_at q)) ∙ read_mark_at s S i t closing.Ended stamps long stamp_writer stamp_readers q)
-        (λ q. refl) (λ q. refl) (λ q k. refl) refl refl)
-        (subst (λ (x : ℕ). Invariant may first (ends x ∷ E) V₂ main₁ draft) ticket end_invariant),
+        (alike V₂ (view e₁) (λ k. refl) (λ q. rw (end_at q)) (λ q. refl) (λ q. refl) (λ q k. refl) refl refl) (rw ticket at end_invariant),
   )

@@ -1,6 +1,6 @@
 -- The state's own changes by a wait, a granted read and a granted write keep its sizes and the invariant.
-use Rattle.std.proofs.Common.{◌≡◌, ℕ, ◌<◌, ◌≤◌, max, true, false, ◌⊎◌, List, ◌∷◌, length, set, Some, None, Option, sym, refl, ap, ◌∙◌, subst, inl, inr, arith, length-set}
-use Rattle.schedule.specs.Cells.{is_reader, no_record, record_of, with_reader, with_writer}
+use Rattle.std.proofs.Common.{◌≡◌, ℕ, ◌<◌, ◌≤◌, max, true, ◌⊎◌, List, ◌∷◌, length, set, Some, None, Option, sym, refl, ap, ◌∙◌, subst, inl, inr, arith, length-set}
+use Rattle.schedule.specs.Cells.{is_reader, no_record, read_noted, record_of, with_reader, with_writer}
 use Rattle.schedule.specs.declared.cell.CellRecord.{CellRecord}
 use Rattle.schedule.specs.declared.job.Job.{Job}
 use Rattle.schedule.specs.declared.job.Wait.{Wait}
@@ -8,14 +8,37 @@ use Rattle.schedule.specs.Jobs.{job_in, with_wait}
 use Rattle.schedule.specs.States.{State, reading, waiting, writing}
 use Rattle.schedule.specs.Verdicts.{May}
 use Rattle.std.proofs.lemmas.List.{get_or-set_other, get_or-set_same}
-use Rattle.std.proofs.lemmas.Bool.{cases_eq}
+use Rattle.std.proofs.lemmas.Bool.Decides.{nat_tests}
+use Rattle.std.proofs.lemmas.Grind.{common_steps}
 use Rattle.std.specs.List.{slice_get}
 use Rattle.theorem.proofs.Granting.{cell_drafted, cell_seen, read_kept, waits_kept, write_kept}
 use Rattle.theorem.proofs.Invariant.{Invariant, View, bare, below, view}
 use Rattle.theorem.proofs.Shapes.{Shape, alike}
-use Rattle.theorem.proofs.Soundness.{after_read, after_write, read_sound, write_sound}
-use Rattle.theorem.proofs.Tables.{bare_wait_set, kept_part, risen, within}
+use Rattle.theorem.proofs.Soundness.{after_read, after_write, by_cell, read_sound, write_sound}
+use Rattle.theorem.proofs.Tables.{bare_wait_set, kept_part, within}
 use Rattle.theorem.specs.Histories.{Effect, accesses, read_gave, waits, wrote}
+
+-- ---- the record of a cell after a granted read ----
+
+module _ (cells : List CellRecord) (cell i group : ℕ) (inside : cell < length cells) where
+  abbrev cells₁ : List CellRecord
+  cells₁ = read_noted cells cell i group
+
+  mark_now : (record_of cells₁ cell).read_mark ≡ max (record_of cells cell).read_mark group
+  mark_now = grind (arith, nat_tests, common_steps)
+
+  mark_else : (q : ℕ) → (q ≡ cell → ⊥) → (record_of cells₁ q).read_mark ≡ (record_of cells q).read_mark
+  mark_else q n = grind (arith, common_steps)
+
+  reader_was : (q x : ℕ) → is_reader (record_of cells₁ q) x ≡ true → (is_reader (record_of cells q) x ≡ true) ⊎ ((q ≡ cell) × (x ≡ i))
+  reader_was q x r = grind (arith, common_steps)
+
+  module _ (row : i < length (record_of cells cell).readers) where
+    reader_now : is_reader (record_of cells₁ cell) i ≡ true
+    reader_now = grind (arith, common_steps)
+
+    reader_up : (q x : ℕ) → is_reader (record_of cells q) x ≡ true → is_reader (record_of cells₁ q) x ≡ true
+    reader_up q x r = grind (arith, common_steps)
 
 module _ {C : Type 0} (may : May) (first : List C) (E : List (Effect C)) (s : State) (main draft : List C) (S : Shape s) (I : Invariant may first E (view s) main draft) where
   -- the job j lies in row i, and has the ticket t
@@ -42,7 +65,7 @@ module _ {C : Type 0} (may : May) (first : List C) (E : List (Effect C)) (s : St
     wait_kept w k o there b = (
       waiting_shape w,
       subst (λ (V : View). Invariant may first (waits t o.ticket ∷ E) V main draft) (waiting_view w)
-          (subst (λ (x : ℕ). Invariant may first (waits x o.ticket ∷ E) (view s) main draft) ticket
+          (rw ticket at
           (waits_kept may first E (view s) main draft I i (with_wait None j) here k (with_wait None o) (ap bare there) b)),
     )
 
@@ -53,7 +76,7 @@ module _ {C : Type 0} (may : May) (first : List C) (E : List (Effect C)) (s : St
     own_read_kept cell c w e = (
       waiting_shape None,
       subst (λ (V : View). Invariant may first (accesses t (read_gave cell c) ∷ E) V main draft) (waiting_view None)
-          (subst (λ (x : ℕ). Invariant may first (accesses x (read_gave cell c) ∷ E) (view s) main draft) ticket
+          (rw ticket at
           (read_kept may first E (view s) main draft I i (with_wait None j) here cell c (view s).read_mark (view s).reader
           (cell_drafted may first E (view s) main draft I cell i (with_wait None j) here w ∙ e) (inl w)
           (λ q. omega arith) (λ q k r. r) I.sound)),
@@ -62,10 +85,6 @@ module _ {C : Type 0} (may : May) (first : List C) (E : List (Effect C)) (s : St
     -- ---- a read of the main cell ----
 
     module _ (cell : ℕ) (inside : cell < length s.cells) where
-      -- a fact on each cell: on this one, and on the others
-      by_cell : (P : ℕ → Type 0) → P cell → ((q : ℕ) → (q ≡ cell → ⊥) → P q) → (q : ℕ) → P q
-      by_cell P p f q = elim (cases_eq q cell) [ inl e ↦ subst P (sym e) p | inr n ↦ f q n ]
-
       abbrev old : CellRecord
       old = record_of s.cells cell
 
@@ -78,62 +97,20 @@ module _ {C : Type 0} (may : May) (first : List C) (E : List (Effect C)) (s : St
         abbrev s₁ : State
         s₁ = reading s i cell j.group
 
-        at_cell : record_of s₁.cells cell ≡ read
-        at_cell = get_or-set_same s.cells cell read no_record inside
-
-        at_else : (q : ℕ) → (q ≡ cell → ⊥) → record_of s₁.cells q ≡ record_of s.cells q
-        at_else q n = get_or-set_other s.cells cell q read no_record n
-
-        reader_now : (view s₁).reader cell i ≡ true
-        reader_now =
-            ap (λ (x : CellRecord). is_reader x i) at_cell
-            ∙ get_or-set_same old.readers i true false
-            (let m = S.readers cell inside in let n = S.rows in let l = within s.jobs i j at in omega arith)
-
-        read_mark_now : (view s₁).read_mark cell ≡ max ((view s).read_mark cell) j.group
-        read_mark_now = ap (λ (x : CellRecord). x.read_mark) at_cell ∙ risen old.read_mark j.group
-
-        read_mark_else : (q : ℕ) → (q ≡ cell → ⊥) → (view s₁).read_mark q ≡ (view s).read_mark q
-        read_mark_else q n = ap (λ (x : CellRecord). x.read_mark) (at_else q n)
+        row : i < length old.readers
+        row = let m = S.readers cell inside in let n = S.rows in let l = within s.jobs i j at in omega arith
 
         read_mark_up : (q : ℕ) → (view s).read_mark q ≤ (view s₁).read_mark q
-        read_mark_up =
-            by_cell (λ q. (view s).read_mark q ≤ (view s₁).read_mark q) (let e = read_mark_now in omega arith) (λ q n. let e = read_mark_else q n in omega arith)
-
-        reader_else : (q : ℕ) → (q ≡ cell → ⊥) → (x : ℕ) → (view s₁).reader q x ≡ (view s).reader q x
-        reader_else q n x = ap (λ (y : CellRecord). is_reader y x) (at_else q n)
-
-        reader_other : (x : ℕ) → (x ≡ i → ⊥) → (view s₁).reader cell x ≡ (view s).reader cell x
-        reader_other x n = ap (λ (y : CellRecord). is_reader y x) at_cell ∙ get_or-set_other old.readers i x true false n
-
-        reader_up : (q x : ℕ) → (view s).reader q x ≡ true → (view s₁).reader q x ≡ true
-        reader_up q x r =
-            by_cell (λ y. (view s).reader y x ≡ true → (view s₁).reader y x ≡ true)
-            (λ h. elim (cases_eq x i) [
-              | inl e ↦ subst (λ (z : ℕ). (view s₁).reader cell z ≡ true) (sym e) reader_now
-              | inr m ↦ reader_other x m ∙ h
-            ])
-            (λ y n h. reader_else y n x ∙ h) q r
-
-        reader_was : (q x : ℕ) → (view s₁).reader q x ≡ true → ((view s).reader q x ≡ true) ⊎ ((q ≡ cell) × (x ≡ i))
-        reader_was q x r =
-            elim (cases_eq q cell) [
-              | inl e ↦ elim (cases_eq x i) [
-                | inl f ↦ inr (e, f)
-                | inr m ↦
-                    inl (subst (λ (y : ℕ). (view s).reader y x ≡ true) (sym e) (sym (reader_other x m) ∙ subst (λ (y : ℕ). (view s₁).reader y x ≡ true) e r))
-              ]
-              | inr n ↦ inl (sym (reader_else q n x) ∙ r)
-            ]
+        read_mark_up = by_cell cell (λ q. (view s).read_mark q ≤ (view s₁).read_mark q)
+            (let e = mark_now s.cells cell i j.group inside in omega arith)
+            (λ q n. let e = mark_else s.cells cell i j.group inside q n in omega arith)
 
         main_read_shape : Shape s₁
         main_read_shape =
             record {
               rows = rows_long None;
               readers = λ q l. let m = length-set s.cells cell read in
-                  by_cell (λ q. q < length s.cells → length (record_of s₁.cells q).readers ≡ 32)
-                  (λ l. ap (λ (x : CellRecord). length x.readers) at_cell ∙ length-set old.readers i true ∙ S.readers cell l)
-                  (λ q n l. ap (λ (x : CellRecord). length x.readers) (at_else q n) ∙ S.readers q l) q (omega arith);
+                  sym (kept_part (λ (x : CellRecord). length x.readers) s.cells cell read (length-set old.readers i true) q) ∙ S.readers q (omega arith);
             }
 
         pub main_read_kept : Shape s₁ × Invariant may first (accesses t (read_gave cell c) ∷ E) (view s₁) main draft
@@ -143,11 +120,12 @@ module _ {C : Type 0} (may : May) (first : List C) (E : List (Effect C)) (s : St
               (alike (after_read (view s) (view s₁).read_mark (view s₁).reader) (view s₁) (rows_same None) (λ q. refl)
               (kept_part (λ (x : CellRecord). x.write_mark) s.cells cell read refl)
               (kept_part (λ (x : CellRecord). x.writer) s.cells cell read refl) (λ q k. refl) refl refl)
-              (subst (λ (x : ℕ). Invariant may first (accesses x (read_gave cell c) ∷ E) (after_read (view s) (view s₁).read_mark (view s₁).reader) main draft) ticket
+              (rw ticket at
               (read_kept may first E (view s) main draft I i (with_wait None j) here cell c (view s₁).read_mark (view s₁).reader
               (cell_seen may first E (view s) main draft I cell i (with_wait None j) here not_mine write_mark_low ∙ value)
-              (inr reader_now) read_mark_up reader_up
-              (read_sound (view s) I.sound i (with_wait None j) here cell (view s₁).read_mark (view s₁).reader read_mark_now read_mark_else reader_was later))),
+              (inr (reader_now s.cells cell i j.group inside row)) read_mark_up (reader_up s.cells cell i j.group inside row)
+              (read_sound (view s) I.sound i (with_wait None j) here cell (view s₁).read_mark (view s₁).reader (mark_now s.cells cell i j.group inside)
+              (mark_else s.cells cell i j.group inside) (reader_was s.cells cell i j.group inside) later))),
         )
 
       -- ---- a write of the draft cell ----
@@ -163,10 +141,10 @@ module _ {C : Type 0} (may : May) (first : List C) (E : List (Effect C)) (s : St
         s₂ = writing s i cell
 
         writer_now : (view s₂).writer cell ≡ Some i
-        writer_now = ap (λ (x : CellRecord). x.writer) (get_or-set_same s.cells cell write no_record inside)
+        writer_now = rw (get_or-set_same s.cells cell write no_record inside)
 
         writer_else : (q : ℕ) → (q ≡ cell → ⊥) → (view s₂).writer q ≡ (view s).writer q
-        writer_else q n = ap (λ (x : CellRecord). x.writer) (get_or-set_other s.cells cell q write no_record n)
+        writer_else q n = rw (get_or-set_other s.cells cell q write no_record n)
 
         draft_write_shape : Shape s₂
         draft_write_shape =
@@ -184,7 +162,7 @@ module _ {C : Type 0} (may : May) (first : List C) (E : List (Effect C)) (s : St
               (kept_part (λ (x : CellRecord). x.read_mark) s.cells cell write refl)
               (kept_part (λ (x : CellRecord). x.write_mark) s.cells cell write refl)
               (λ q. refl) (λ q k. kept_part (λ (x : CellRecord). is_reader x k) s.cells cell write refl q) refl refl)
-              (subst (λ (x : ℕ). Invariant may first (accesses x (wrote cell c) ∷ E) (after_write (view s) (view s₂).writer) main (set draft cell c)) ticket
+              (rw ticket at
               (write_kept may first E (view s) main draft I i (with_wait None j) here cell c (view s₂).writer writer_now writer_else
               (let m = I.main_length in omega arith) in_draft alone
               (write_sound (view s) I.sound i (with_wait None j) here cell (view s₂).writer writer_now writer_else read_mark_low write_mark_low readers_low))),

@@ -1,5 +1,5 @@
 -- A write keeps the invariant, whatever its answer.
-use Rattle.std.proofs.Common.{◌≡◌, ℕ, ◌≤◌, true, false, ltb, List, ◌∷◌, length, Some, None, Ok, Err, Option, Result, refl, ap, ◌∙◌, subst, inl, inr, arith}
+use Rattle.std.proofs.Common.{◌≡◌, ℕ, ◌≤◌, true, false, ltb, List, ◌∷◌, length, Some, None, Ok, Err, Option, Result, refl, ◌∙◌, inl, inr, arith}
 use Rattle.schedule.proofs.Admitting.{Admitted, admitted_ok}
 use Rattle.schedule.specs.Books.{Book, book, book_write, drafted, write_as}
 use Rattle.schedule.specs.Cells.{is_reader, is_writer, record_of}
@@ -8,32 +8,28 @@ use Rattle.schedule.specs.declared.answer.Rejection.{Rejection}
 use Rattle.schedule.specs.declared.cell.CellRecord.{CellRecord}
 use Rattle.schedule.specs.declared.counters.Closing.TheVariants as closing
 use Rattle.schedule.specs.declared.job.Job.{Job}
+use Rattle.schedule.specs.declared.job.Seated.{Seated}
 use Rattle.schedule.specs.declared.job.Kind.TheVariants as kind
 use Rattle.schedule.specs.declared.request.Event.TheVariants as event
 use Rattle.schedule.specs.declared.verdict.Blockers.{Blockers}
-use Rattle.schedule.specs.declared.verdict.Verdict.{Verdict}
-use Rattle.schedule.specs.declared.verdict.Verdict.TheVariants as verdict
+use Rattle.schedule.specs.Verdicts.{May, Verdict, blocks, gathered, group_or_zero, no_blockers, top_mark, unless_forbidden, write_verdict, writer_job}
+use Rattle.schedule.specs.declared.verdict.Obstacle.TheVariants as obstacle
 use Rattle.schedule.specs.Jobs.{job_in, party}
 use Rattle.schedule.specs.Reachable.{Sized}
-use Rattle.schedule.specs.States.{State, waiting}
+use Rattle.schedule.specs.States.{State}
 use Rattle.schedule.specs.Steps.{admitted, write_by, write_on}
-use Rattle.schedule.specs.Verdicts.{May, blocks, gathered, group_or_zero, no_blockers, top_mark, unless_forbidden, write_verdict, writer_job}
-use Rattle.std.proofs.lemmas.Bool.{both_ways, cases_eq, cases_lt, cond_both, ltb-false}
+use Rattle.std.proofs.lemmas.Bool.{cases_eq, cond_both, ltb-false}
+use Rattle.std.proofs.lemmas.Bool.Decides.{nat_tests}
 use Rattle.theorem.proofs.Blockers.{blocks_not, blocks_parts, lowest_blocks, none_blocks}
-use Rattle.theorem.proofs.Cycles.{below_earlier, below_same}
 use Rattle.theorem.proofs.Invariant.{below, view}
 use Rattle.theorem.proofs.Kept.{Kept, stays}
 use Rattle.theorem.proofs.StateClosing.{leave_kept}
 use Rattle.theorem.proofs.StateGranting.{draft_write_kept, wait_kept}
 use Rattle.theorem.proofs.Tables.{bare_some, found_ticket, is_writer_from, writer_is}
-use Rattle.theorem.specs.Histories.{Effect, effect, waits, was_rejected}
+use Rattle.theorem.specs.Histories.{Effect, effect, was_rejected}
 
 below_from : (may : May) (j o : Job) → o.group ≤ j.group → (o.group ≡ j.group → may (party j) (party o) ≡ true) → below may j o ≡ true
-below_from may j o l m =
-    elim (cases_lt o.group j.group) [
-      | inl h ↦ below_earlier may j o h
-      | inr h ↦ let e : o.group ≡ j.group = omega arith in below_same may j o e (m e)
-    ]
+below_from may j o l m = grind (arith, nat_tests)
 
 module _ {C : Type 0} (may : May) (first : List C) (E : List (Effect C)) (b : Book C) (K : Kept may first E b) (sized : Sized b) (ticket cell : ℕ) (c : C) where
   abbrev s : State
@@ -42,7 +38,7 @@ module _ {C : Type 0} (may : May) (first : List C) (E : List (Effect C)) (b : Bo
   abbrev r : CellRecord
   r = record_of s.cells cell
 
-  module _ (i : ℕ) (j : Job) (A : Admitted (length s.cells) s.jobs ticket cell (i, j)) where
+  module _ (i : ℕ) (j : Job) (A : Admitted (length s.cells) s.jobs ticket cell (record { row = i; job = j })) where
     at : job_in s.jobs i ≡ Some j
     at = A.job
 
@@ -55,15 +51,14 @@ module _ {C : Type 0} (may : May) (first : List C) (E : List (Effect C)) (b : Bo
         Kept may first (effect (event.Write ticket cell c (write_by s i ticket cell v).0) ∷ E)
         (book b.main (drafted b.draft cell c (write_by s i ticket cell v).0) (write_by s i ticket cell v).1)
 
-    rejected : (why : Rejection) → Decided (verdict.Reject why)
+    rejected : (why : Rejection) → Decided (Err (obstacle.Reject why))
     unfolding Decided
     rejected why = leave_kept may first E s b.main b.draft K.0 K.1 i j at ticket own_ticket closing.Rejected was_rejected
 
-    waited : (u k : ℕ) (o : Job) → job_in s.jobs k ≡ Some o → o.ticket ≡ u → below may j o ≡ true → Decided (verdict.Wait u)
+    waited : (u k : ℕ) (o : Job) → job_in s.jobs k ≡ Some o → o.ticket ≡ u → below may j o ≡ true → Decided (Err (obstacle.Wait u))
     unfolding Decided
     waited u k o there e h =
-        subst (λ (x : ℕ). Kept may first (waits ticket x ∷ E) (book b.main b.draft (waiting s i (Some (record { kind = kind.Write; cell = cell; ticket = u }))))) e
-        (wait_kept may first E s b.main b.draft K.0 K.1 i j at ticket own_ticket _ k o there h)
+        rw (← e) (wait_kept may first E s b.main b.draft K.0 K.1 i j at ticket own_ticket _ k o there h)
 
     abbrev G : Blockers
     G = gathered may r i j 0 s.jobs no_blockers
@@ -73,9 +68,7 @@ module _ {C : Type 0} (may : May) (first : List C) (E : List (Effect C)) (b : Bo
         → o.group ≤ j.group
     not_later low k o there h =
         elim (blocks_parts r i j k o h) [
-          | inl w ↦
-              let f : writer_job s.jobs r.writer ≡ Some o = ap (λ (y : Option ℕ). writer_job s.jobs y) (writer_is r.writer k w) ∙ there in
-              let g : group_or_zero (writer_job s.jobs r.writer) ≡ o.group = ap group_or_zero f in omega arith
+          | inl w ↦ let v = writer_is r.writer k w in let g : group_or_zero (writer_job s.jobs r.writer) ≡ o.group = cc in omega arith
           | inr e ↦ omega arith
         ]
 
@@ -84,9 +77,8 @@ module _ {C : Type 0} (may : May) (first : List C) (E : List (Effect C)) (b : Bo
         → (is_writer r.writer k ≡ false) × (is_reader r k ≡ true → o.group ≡ j.group → ⊥)
     free none k o h n =
         let f = bare_some (job_in s.jobs k) o h in
-        let y : Job = f.0 in
-        let g : y.group ≡ o.group = ap (λ (x : Job). x.group) f.2 in
-        let p = blocks_not r i j k y n (none_blocks may r i j s.jobs none k y f.1) in
+        let g : f.0.group ≡ o.group = cc in
+        let p = blocks_not r i j k f.0 n (none_blocks may r i j s.jobs none k f.0 f.1) in
         (p.0, λ d e. p.1 d (g ∙ e))
 
     alone : G.lowest ≡ None → (k : ℕ) → (view s).writer cell ≡ Some k → k ≡ i
@@ -97,10 +89,10 @@ module _ {C : Type 0} (may : May) (first : List C) (E : List (Effect C)) (b : Bo
         by_job (Some o) e =
             elim (cases_eq k i) [
               | inl p ↦ p
-              | inr n ↦ absurd (both_ways (is_writer r.writer k) (free none k o e n).0 (is_writer_from r.writer k w))
+              | inr n ↦ let f = (free none k o e n).0 in let g = is_writer_from r.writer k w in cc
             ]
 
-    granted : top_mark s.jobs r ≤ j.group → G.lowest ≡ None → Decided (verdict.Grant tt)
+    granted : top_mark s.jobs r ≤ j.group → G.lowest ≡ None → Decided (Ok tt)
     unfolding Decided
     granted low none =
         draft_write_kept may first E s b.main b.draft K.0 K.1 i j at ticket own_ticket cell A.within c
@@ -121,16 +113,16 @@ module _ {C : Type 0} (may : May) (first : List C) (E : List (Effect C)) (b : Bo
         cond_both (ltb j.group (top_mark s.jobs r)) _ _ Decided (λ h. rejected _)
         (λ h. past G.forbidden G.lowest refl refl (ltb-false j.group (top_mark s.jobs r) h))
 
-    granted_or_not : Kept may first (effect (event.Write ticket cell c (write_as b cell c (write_on may s ticket cell (Ok (i, j)))).0) ∷ E)
-        (write_as b cell c (write_on may s ticket cell (Ok (i, j)))).1
+    granted_or_not : Kept may first (effect (event.Write ticket cell c (write_as b cell c (write_on may s ticket cell (Ok (record { row = i; job = j })))).0) ∷ E)
+        (write_as b cell c (write_on may s ticket cell (Ok (record { row = i; job = j })))).1
     unfolding Decided
     granted_or_not = decide
 
-  by_admission : (a : Result (ℕ × Job) Refusal) → admitted (length s.cells) s.jobs ticket cell kind.Write ≡ a
+  by_admission : (a : Result Seated Refusal) → admitted (length s.cells) s.jobs ticket cell kind.Write ≡ a
       → Kept may first (effect (event.Write ticket cell c (write_as b cell c (write_on may s ticket cell a)).0) ∷ E)
       (write_as b cell c (write_on may s ticket cell a)).1
   by_admission (Err why) e = stays may first E b K
-  by_admission (Ok p) e = granted_or_not p.0 p.1 (admitted_ok (length s.cells) s.jobs ticket cell kind.Write p e)
+  by_admission (Ok p) e = granted_or_not p.row p.job (admitted_ok (length s.cells) s.jobs ticket cell kind.Write p e)
 
   pub write_request_kept : Kept may first (effect (event.Write ticket cell c (book_write may b ticket cell c).0) ∷ E)
       (book_write may b ticket cell c).1

@@ -1,6 +1,6 @@
 -- What a history tells by itself: requests with their answers, the newest first, and no scheduler.
 use Rattle.std.specs.Prelude.{ℕ, zero, suc, max, Bool, false, cond, not, ◌&&◌, ◌||◌, List, [], ◌∷◌, ◌++◌, Some, None, Ok, Err, Option, ◌==◌}
-use Rattle.schedule.specs.declared.answer.Reply.TheVariants as reply
+use Rattle.schedule.specs.declared.answer.NotGranted.TheVariants as not_granted
 use Rattle.schedule.specs.declared.request.Event.{Event}
 use Rattle.schedule.specs.declared.request.Event.TheVariants as event
 
@@ -31,14 +31,14 @@ pub data Effect (C : Type 0) : Type 0 where
 abbrev pub effect : {C : Type 0} → Event C → Effect C
 effect (event.Begin class (Ok p)) = opens p.0 p.1
 effect (event.Begin class (Err why)) = nothing
-effect (event.Read ticket cell (reply.Granted c)) = accesses ticket (read_gave cell c)
-effect (event.Read ticket cell (reply.Wait blocker)) = waits ticket blocker
-effect (event.Read ticket cell (reply.Rejected why)) = leaves ticket was_rejected
-effect (event.Read ticket cell (reply.Refused why)) = nothing
-effect (event.Write ticket cell c (reply.Granted u)) = accesses ticket (wrote cell c)
-effect (event.Write ticket cell c (reply.Wait blocker)) = waits ticket blocker
-effect (event.Write ticket cell c (reply.Rejected why)) = leaves ticket was_rejected
-effect (event.Write ticket cell c (reply.Refused why)) = nothing
+effect (event.Read ticket cell (Ok c)) = accesses ticket (read_gave cell c)
+effect (event.Read ticket cell (Err (not_granted.Wait blocker))) = waits ticket blocker
+effect (event.Read ticket cell (Err (not_granted.Rejected why))) = leaves ticket was_rejected
+effect (event.Read ticket cell (Err (not_granted.Refused why))) = nothing
+effect (event.Write ticket cell c (Ok u)) = accesses ticket (wrote cell c)
+effect (event.Write ticket cell c (Err (not_granted.Wait blocker))) = waits ticket blocker
+effect (event.Write ticket cell c (Err (not_granted.Rejected why))) = leaves ticket was_rejected
+effect (event.Write ticket cell c (Err (not_granted.Refused why))) = nothing
 effect (event.End ticket (Ok p)) = ends ticket
 effect (event.End ticket (Err why)) = nothing
 effect (event.GiveUp ticket (Ok u)) = leaves ticket gave_up
