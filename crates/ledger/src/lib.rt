@@ -4,14 +4,6 @@
 // the caller does the reading and the writing.
 #![tactic(auto)]
 
-mod admission;
-pub mod beginning;
-pub mod closing;
-pub mod counts;
-pub mod fresh;
-pub mod grouping;
-pub mod ledger;
-pub mod reading;
-pub mod writing;
+mod ledger;
 
 pub use ledger::Ledger;

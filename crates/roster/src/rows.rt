@@ -1,10 +1,10 @@
-ghost use Rattle.std.specs.Prelude.{◌≡◌, [], map, replicate, IfOk, Some, None, slice_set};
-ghost use Rattle.schedule.specs.Jobs.{closed_rows, find, holds, job_in, vacant, wait_lifted, wait_set};
-ghost use Rattle.std.specs.Vec.{vec_allocator};
-ghost use Rattle.std.specs.Option.{option_map};
+ghost use Rattle.std.specs.Prelude.{◌≡◌, [], replicate, IfOk, Some, None, slice_set};
+ghost use Rattle.schedule.specs.Jobs.{closed_rows, find, holds, job_in, vacant, wait_set};
+ghost use Rattle.std.specs.Global.{Global};
 
-use schedule::{Job, Wait};
+use schedule::{Job, Wait, job_in};
 use std::alloc::{AllocError, Global};
+use std::marker::Model;
 
 // The rows in which the open jobs lie. A row with no job is free.
 #[derive(Drop)]
@@ -12,168 +12,103 @@ pub struct JobRows {
     rows: Vec<Option<Job>>,
 }
 
+// A contract sees what is in each row.
+impl Model for JobRows {
+    ghost use Rattle.std.specs.Prelude.{List, Option};
+    ghost use Rattle.schedule.specs.declared.job.Job.{Job};
+
+    ghost Value = { List (Option Job) };
+
+    ghost view = { λ table. table.rows.items };
+}
+
 impl JobRows {
     // No rows, which takes no memory.
-    pub fn none(heap: Global) -> JobRows
-        ensures no_rows { result.rows.items ≡ [] }
+    pub fn none(alloc: Global) -> JobRows
+        ensures no_rows { result ≡ [] }
     {
         JobRows {
-            rows: Vec::new(heap),
+            rows: Vec::new(alloc),
         }
     }
 
     // Thirty-two free rows.
-    pub fn new(heap: Global) -> Result<JobRows, AllocError>
-        ensures made { IfOk result (λ t. t.rows.items ≡ replicate 32 None) }
+    pub fn new(alloc: Global) -> Result<JobRows, AllocError>
+        ensures made { IfOk result (λ rows. rows ≡ replicate 32 None) }
     {
-        let rows = vec![in heap; None; 32]?;
+        let rows = vec![in alloc; None; 32]?;
         Ok(JobRows { rows })
     }
 
+    // The allocator of the rows. There is but one `Global`.
     pub fn allocator(&self) -> Global
-        ensures heap { result ≡ vec_allocator self.now.rows }
+        ensures the_only_one { (alloc : Global) → result ≡ alloc }
     {
         *self.rows.allocator()
     }
 
     pub fn as_slice(&self) -> &[Option<Job>]
-        ensures rows_lent { result.now ≡ self.now.rows.items }
+        ensures rows_lent { result.now ≡ self.now }
     {
         self.rows.as_slice()
     }
 
     // The row of the open job with this ticket.
     pub fn row_of(&self, ticket: u32) -> Option<usize>
-        ensures row_found { result ≡ find (holds ticket) self.now.rows.items }
+        ensures row_found { result ≡ find (holds ticket) self.now }
     {
-        row_with(&self.rows, ticket)
+        self.rows
+            .iter()
+            .position(|row| row.is_some_and(|job| job.ticket == ticket))
     }
 
     // The first free row.
     pub fn free_row(&self) -> Option<usize>
-        ensures row_found { result ≡ find vacant self.now.rows.items }
+        ensures row_found { result ≡ find vacant self.now }
     {
-        first_free(&self.rows)
+        self.rows.iter().position(Option::is_none)
     }
 
     // The job in a row.
     pub fn job_in(&self, row: usize) -> Option<Job>
-        ensures job_there { result ≡ job_in self.now.rows.items row }
+        ensures job_there { result ≡ job_in self.now row }
     {
-        job_at(&self.rows, row)
+        job_in(&self.rows, row)
     }
 
     // The job gets the row.
     pub fn seat(&mut self, row: usize, job: Job)
-        ensures rows_after { self.new.rows.items ≡ slice_set self.old.rows.items row (Some job) }
+        ensures rows_after { self.new ≡ slice_set self.old row (Some job) }
     {
-        put_row(&mut self.rows, row, Some(job));
+        if let Some(seat) = self.rows.get_mut(row) {
+            *seat = Some(job);
+        }
     }
 
     // The job in the row waits so, or not at all.
     pub fn set_wait(&mut self, row: usize, wait: Option<Wait>)
-        ensures rows_after { self.new.rows.items ≡ wait_set self.old.rows.items row wait }
+        ensures rows_after { self.new ≡ wait_set self.old row wait }
     {
-        put_wait(&mut self.rows, row, wait);
-    }
-
-    // The job in the row, whose ticket this is, closes: no job waits for it any more, and its row is free.
-    pub fn close(&mut self, row: usize, ticket: u32)
-        ensures rows_after { self.new.rows.items ≡ closed_rows self.old.rows.items row ticket }
-    {
-        lift_waits(&mut self.rows, ticket);
-        put_row(&mut self.rows, row, None);
-    }
-}
-
-// Whether the row holds the job with this ticket.
-fn has_ticket(row: &Option<Job>, ticket: u32) -> bool
-    ensures test { result ≡ holds ticket row.now }
-{
-    match row {
-        None => false,
-        Some(job) => job.ticket == ticket,
-    }
-}
-
-fn row_with(rows: &[Option<Job>], ticket: u32) -> Option<usize>
-    ensures row_found { result ≡ find (holds ticket) rows.now }
-{
-    for (i, row) in rows.iter().enumerate() {
-        if has_ticket(row, ticket) {
-            return Some(i);
-        }
-    }
-    None
-}
-
-// Whether the row has no job.
-fn is_free(row: &Option<Job>) -> bool
-    ensures test { result ≡ vacant row.now }
-{
-    row.is_none()
-}
-
-fn first_free(rows: &[Option<Job>]) -> Option<usize>
-    ensures row_found { result ≡ find vacant rows.now }
-{
-    for (i, row) in rows.iter().enumerate() {
-        if is_free(row) {
-            return Some(i);
-        }
-    }
-    None
-}
-
-fn job_at(rows: &[Option<Job>], row: usize) -> Option<Job>
-    ensures job_there { result ≡ job_in rows.now row }
-{
-    if row < rows.len() { rows[row] } else { None }
-}
-
-fn put_row(rows: &mut Vec<Option<Job>>, row: usize, job: Option<Job>)
-    ensures rows_after { rows.new.items ≡ slice_set rows.old.items row job }
-{
-    if row < rows.len() {
-        rows[row] = job;
-    }
-}
-
-fn put_wait(rows: &mut Vec<Option<Job>>, row: usize, wait: Option<Wait>)
-    ensures rows_after { rows.new.items ≡ wait_set rows.old.items row wait }
-{
-    if row < rows.len() {
-        if let Some(job) = &mut rows[row] {
+        if let Some(place) = self.rows.get_mut(row)
+            && let Some(job) = place
+        {
             job.wait = wait;
         }
     }
-}
 
-// The job waits no more for the job with this ticket.
-fn lift_wait(job: &mut Job, ticket: u32)
-    ensures job_after { job.new ≡ wait_lifted ticket job.old }
-{
-    if let Some(wait) = job.wait {
-        if wait.ticket == ticket {
-            job.wait = None;
+    // The job in the row, whose ticket this is, closes: no job waits for it any more, and its row is free.
+    #[tactic(auto, using(crate::proofs::Sweeping::lifted_more, crate::proofs::Sweeping::job_lifted_more))]
+    pub fn close(&mut self, row: usize, ticket: u32)
+        ensures rows_after { self.new ≡ closed_rows self.old row ticket }
+    {
+        for place in self.rows.iter_mut() {
+            let Some(job) = place else {
+                continue;
+            };
+            job.lift_wait(ticket);
         }
-    }
-}
-
-// The job in the row, if there is one, waits no more for the job with this ticket.
-fn lift_wait_in(row: &mut Option<Job>, ticket: u32)
-    ensures row_after { row.new ≡ option_map (wait_lifted ticket) row.old }
-{
-    if let Some(job) = row {
-        lift_wait(job, ticket);
-    }
-}
-
-// No job waits any more for the job with this ticket.
-fn lift_waits(rows: &mut Vec<Option<Job>>, ticket: u32)
-    ensures rows_after { rows.new.items ≡ map (option_map (wait_lifted ticket)) rows.old.items }
-{
-    for row in rows.iter_mut() {
-        lift_wait_in(row, ticket);
+        if let Some(left) = self.rows.get_mut(row) {
+            *left = None;
+        }
     }
 }

@@ -1,7 +1,6 @@
 // The verdicts on reads and writes that are not refused: granted, wait, or rejected.
 #![tactic(auto)]
 
-mod blockers;
-pub mod judging;
+pub mod attempt;
 
-pub use judging::{read_verdict, write_verdict};
+pub use attempt::Attempt;
