@@ -1,3 +1,2 @@
-pub mod Backwards
 pub mod Distinct
 pub mod Words

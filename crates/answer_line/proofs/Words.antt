@@ -1,101 +1,64 @@
--- Numbers after spaces, and what tells them apart.
-use Rattle.std.proofs.Common.{◌≡◌, ℕ, zero, suc, ◌/◌, ◌%◌, ◌^◌, ◌<◌, ◌≤◌, true, false, cond, eqb, List, [], ◌∷◌, ◌++◌, ℤ, pos, negsuc, decimal, sym, refl, ap, subst, arith}
-use Rattle.std.proofs.lemmas.Fmt.{decimal_injective}
-use Rattle.std.proofs.ByRecursion.{All-append, All-weaker}
+-- The words of a text, which its spaces part, and the numbers that they write.
+use Rattle.std.proofs.Common.{◌≡◌, ◌≢◌, ℕ, ◌^◌, ◌<◌, ◌≤◌, false, eqb, List, [], ◌∷◌, ◌++◌, get_or, ℤ, pos, negsuc, suc, map, decimal, refl, arith}
+use lib.Signed.{mag}
 use Rattle.std.proofs.lemmas.Bool.Decides.{nat_tests}
-use Rattle.std.specs.List.{AllByRecursion}
-use Rattle.std.specs.Fmt.{digits, digit_glyph, signed_decimal, digits_onto}
+use Rattle.std.proofs.lemmas.Fmt.{decimal_is_IsNumeral}
+use Rattle.std.proofs.lemmas.List.Elements.{All-append, All-cons, All-from_get_or, All-weaker}
+use Rattle.std.proofs.lemmas.List.Splits.{slice_split_at, slice_split_none}
+use Rattle.std.proofs.lemmas.Str.Parse.{digit_at}
+use Rattle.std.specs.Fmt.{signed_decimal}
+use Rattle.std.specs.List.{All, slice_split}
+use Rattle.std.specs.Str.Parse.{signed_digits_value}
 
--- a byte that a number is written with, 0 to 9 or a minus, and so neither a space nor the end of a line
-abbrev pub Figure : ℕ → Type 0
-Figure byte = 45 ≤ byte
+abbrev pub numbers : List ℕ → List ℤ
+numbers bytes = map (signed_digits_value 10) (slice_split (λ byte. eqb byte 32) bytes)
 
-abbrev Digit : ℕ → Type 0
-Digit byte = 48 ≤ byte
+-- a number is written with digits
+figures : (n : ℕ) → n < 2 ^ 64 → All (λ byte. 48 ≤ byte) (decimal n)
+figures n short = All-from_get_or (λ byte. 48 ≤ byte) (decimal n) 0 (λ i inside. (digit_at (decimal n) i (decimal_is_IsNumeral n short).0.1 inside).0)
 
-glyph_digit : (n : ℕ) → Digit (digit_glyph false (n % 10))
-glyph_digit n = grind (arith, nat_tests)
+no_space : (n : ℕ) → n < 2 ^ 64 → All (λ byte. eqb byte 32 ≡ false) (decimal n)
+no_space n short = All-weaker (λ byte. 48 ≤ byte) (λ byte. eqb byte 32 ≡ false) (λ byte h. grind (arith, nat_tests)) (decimal n) (figures n short)
 
-spelled_digits : (k n : ℕ) (after : List ℕ) → AllByRecursion Digit after → AllByRecursion Digit (digits_onto k 10 false n after)
-spelled_digits zero n after h = h
-spelled_digits (suc k) n after h =
-    let more : AllByRecursion Digit (digit_glyph false (n % 10) ∷ after) = (glyph_digit n, h) in
-    elim (eqb (n / 10) 0) as (λ b. AllByRecursion Digit (cond b (digit_glyph false (n % 10) ∷ after) (digits_onto k 10 false (n / 10) (digit_glyph false (n % 10) ∷ after))))
-    [ true ↦ more | false ↦ spelled_digits k (n / 10) (digit_glyph false (n % 10) ∷ after) more ]
+-- no sign stands before a number
+value_decimal : (n : ℕ) → n < 2 ^ 64 → signed_digits_value 10 (decimal n) ≡ pos n
+value_decimal n short =
+    let digits = decimal_is_IsNumeral n short in
+    let first = figures n short 0 0 digits.0.0 in
+    let no_minus : eqb (get_or (decimal n) 0 0) 45 ≡ false = grind (arith, nat_tests) in
+    let no_plus : eqb (get_or (decimal n) 0 0) 43 ≡ false = grind (arith, nat_tests) in
+    rw (no_minus, no_plus, digits.1)
 
-decimal_digits : (n : ℕ) → AllByRecursion Digit (decimal n)
-unfolding digits
-decimal_digits n = spelled_digits 64 n [] tt
+pub first_number : (n : ℕ) (rest : List ℕ) → n < 2 ^ 64 → numbers (decimal n ++ 32 ∷ rest) ≡ pos n ∷ numbers rest
+first_number n rest short = rw (slice_split_at (λ byte. eqb byte 32) (decimal n) 32 rest (no_space n short) refl, value_decimal n short)
 
-decimal_figures : (n : ℕ) → AllByRecursion Figure (decimal n)
-decimal_figures n = All-weaker Digit Figure (λ byte h. omega arith) (decimal n) (decimal_digits n)
+pub last_number : (n : ℕ) → n < 2 ^ 64 → numbers (decimal n) ≡ pos n ∷ []
+last_number n short = rw (slice_split_none (λ byte. eqb byte 32) (decimal n) (no_space n short), value_decimal n short)
 
-signed_figures : (z : ℤ) → AllByRecursion Figure (signed_decimal z)
-signed_figures (pos n) = decimal_figures n
-signed_figures (negsuc n) = (omega arith, decimal_figures (suc n))
+pub two_numbers : (m n : ℕ) → m < 2 ^ 64 → n < 2 ^ 64 → numbers (decimal m ++ 32 ∷ decimal n) ≡ pos m ∷ pos n ∷ []
+two_numbers m n p q = rw (first_number m (decimal n) p, last_number n q)
 
--- a number of at most 64 bits
-abbrev pub Short : ℤ → Type 0
-Short (pos n) = n < 2 ^ 64
-Short (negsuc n) = suc n < 2 ^ 64
+pub last_height : (z : ℤ) → mag z < 2 ^ 31 → numbers (signed_decimal z) ≡ z ∷ []
+last_height (pos n) short = last_number n (omega arith)
+last_height (negsuc n) short =
+    let after = no_space (suc n) (omega arith) in
+    let digits = decimal_is_IsNumeral (suc n) (omega arith) in
+    rw (slice_split_none (λ byte. eqb byte 32) (45 ∷ decimal (suc n)) (All-cons (λ byte. eqb byte 32 ≡ false) 45 (decimal (suc n)) refl after), digits.1)
 
-pub head_eq : {x y : ℕ} {xs ys : List ℕ} → x ∷ xs ≡ y ∷ ys → x ≡ y
-head_eq e = cc
+-- ---- what ends no line ----
 
-pub tail_eq : {x y : ℕ} {xs ys : List ℕ} → x ∷ xs ≡ y ∷ ys → xs ≡ ys
-tail_eq e = cc
+abbrev pub GoesOn : List ℕ → Type 0
+GoesOn bytes = All (λ byte. byte ≢ 10) bytes
 
-no_minus : (n : ℕ) (xs : List ℕ) → decimal n ≡ 45 ∷ xs → ⊥
-no_minus n xs e = let h = (subst (AllByRecursion Digit) e (decimal_digits n)).0 in omega arith
+pub byte_goes_on : (byte : ℕ) (rest : List ℕ) → byte ≢ 10 → GoesOn rest → GoesOn (byte ∷ rest)
+byte_goes_on byte rest other more = All-cons (λ b. b ≢ 10) byte rest other more
 
-same_number : (y z : ℤ) → Short y → Short z → signed_decimal y ≡ signed_decimal z → y ≡ z
-same_number (pos m) (pos n) p q e = ap pos (decimal_injective m n p q e)
-same_number (pos m) (negsuc n) p q e = absurd (no_minus m (decimal (suc n)) e)
-same_number (negsuc m) (pos n) p q e = absurd (no_minus n (decimal (suc m)) (sym e))
-same_number (negsuc m) (negsuc n) p q e =
-    let s = decimal_injective (suc m) (suc n) p q (tail_eq e) in
-    ap negsuc (omega arith)
+pub words_go_on : (xs ys : List ℕ) → GoesOn xs → GoesOn ys → GoesOn (xs ++ 32 ∷ ys)
+words_go_on xs ys h more = All-append (λ b. b ≢ 10) xs (32 ∷ ys) h (byte_goes_on 32 ys (λ e. omega arith) more)
 
--- each number after a space
-abbrev pub spaced : List ℤ → List ℕ
-spaced [] = []
-spaced (z ∷ zs) = 32 ∷ (signed_decimal z ++ spaced zs)
+pub number_goes_on : (n : ℕ) → n < 2 ^ 64 → GoesOn (decimal n)
+number_goes_on n short = All-weaker (λ b. 48 ≤ b) (λ b. b ≢ 10) (λ b h e. omega arith) (decimal n) (figures n short)
 
--- what can stand after a number
-abbrev Stops : List ℕ → Type 0
-Stops [] = Unit {0}
-Stops (byte ∷ bytes) = byte < 45
-
-stops : (zs : List ℤ) → Stops (spaced zs)
-stops [] = tt
-stops (z ∷ zs) = omega arith
-
--- where the figures end
-split : (u v s t : List ℕ) → AllByRecursion Figure u → AllByRecursion Figure v → Stops s → Stops t → u ++ s ≡ v ++ t → (u ≡ v) × (s ≡ t)
-split [] [] s t p q a b e = (refl, e)
-split [] (y ∷ v) s t p q a b e = let h = subst Stops e a in let k = q.0 in absurd (omega arith)
-split (x ∷ u) [] s t p q a b e = let h = subst Stops (sym e) b in let k = p.0 in absurd (omega arith)
-split (x ∷ u) (y ∷ v) s t p q a b e =
-    let rest = split u v s t p.1 q.1 a b (tail_eq e) in
-    ((λ i. head_eq e i ∷ rest.0 i), rest.1)
-
-empty_not : {x : ℕ} {xs : List ℕ} → [] ≡ x ∷ xs → ⊥
-empty_not e = let z : ◌≡◌ {A = ℕ} 0 1 = cc in omega arith
-
-pub same_numbers : (ys zs : List ℤ) → AllByRecursion Short ys → AllByRecursion Short zs → spaced ys ≡ spaced zs → ys ≡ zs
-same_numbers [] [] p q e = refl
-same_numbers [] (z ∷ zs) p q e = absurd (empty_not e)
-same_numbers (y ∷ ys) [] p q e = absurd (empty_not (sym e))
-same_numbers (y ∷ ys) (z ∷ zs) p q e =
-    let parts = split (signed_decimal y) (signed_decimal z) (spaced ys) (spaced zs) (signed_figures y) (signed_figures z) (stops ys) (stops zs) (tail_eq e) in
-    (λ i. same_number y z p.0 q.0 parts.0 i ∷ same_numbers ys zs p.1 q.1 parts.1 i)
-
--- none of their bytes ends a line
-pub spaced_goes_on : (zs : List ℤ) → AllByRecursion (λ byte. byte ≡ 10 → ⊥) (spaced zs)
-spaced_goes_on [] = tt
-spaced_goes_on (z ∷ zs) = (
-  (λ e. omega arith),
-  All-append (λ byte. byte ≡ 10 → ⊥) (signed_decimal z) (spaced zs)
-      (All-weaker Figure (λ byte. byte ≡ 10 → ⊥) (λ byte h e. omega arith) (signed_decimal z) (signed_figures z))
-      (spaced_goes_on zs),
-)
+pub height_goes_on : (z : ℤ) → mag z < 2 ^ 31 → GoesOn (signed_decimal z)
+height_goes_on (pos n) short = number_goes_on n (omega arith)
+height_goes_on (negsuc n) short = byte_goes_on 45 (decimal (suc n)) (λ e. omega arith) (number_goes_on (suc n) (omega arith))

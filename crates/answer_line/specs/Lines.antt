@@ -1,15 +1,14 @@
 -- That an answer is one line, and that two answers never share a line.
-use Rattle.std.specs.Prelude.{◌≡◌, ℕ, ◌^◌, ◌<◌, ◌≢◌}
+use Rattle.std.specs.Prelude.{◌≡◌, ℕ, ◌^◌, ◌<◌, ◌≢◌, All}
 use Rattle.std.specs.Int.Signed.{mag}
 use Rattle.answer_line.specs.declared.answer.Answer.{Answer}
 use Rattle.answer_line.specs.declared.answer.Answer.TheVariants as answer
 use Rattle.answer_line.specs.Text.{text}
 use Rattle.schedule.specs.Answers.{rejection_detail}
-use Rattle.std.specs.List.{AllByRecursion}
 
 -- the text has no byte 10, which ends a line
 abbrev pub OneLine : Answer → Type 0
-OneLine a = AllByRecursion (λ byte. byte ≢ 10) (text a)
+OneLine a = All (λ byte. byte ≢ 10) (text a)
 
 -- the values of a u32
 abbrev pub Number : ℕ → Type 0

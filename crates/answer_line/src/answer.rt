@@ -1,10 +1,10 @@
 ghost use Rattle.std.specs.Prelude.{◌≡◌};
-ghost use Rattle.answer_line.specs.Answers.{answer_to};
+ghost use Rattle.answer_line.specs.Answers.{answer_to, why_not};
 
-use schedule::{Event, Refusal, Rejection, Reply};
+use schedule::{Event, NotGranted, Refusal, Rejection};
 
 // The answer to a line: to the request that it holds, or that it holds none.
-#[derive(Clone, Copy, PartialEq, Eq)]
+#[derive(Clone, Copy, PartialEq, Eq, Debug)]
 pub enum Answer {
     // ticket, group and place
     Begun(u32, u32, u32),
@@ -24,26 +24,40 @@ pub enum Answer {
     NoRequest(usize),
 }
 
-// The answer that an event tells of.
-pub fn answer_to(event: &Event<i32>) -> Answer
-    ensures answer { result ≡ answer_to event.now }
-{
-    match *event {
-        Event::Begin(_, Ok((ticket, group, place))) => Answer::Begun(ticket, group, place),
-        Event::Begin(_, Err(refusal)) => Answer::Refused(refusal),
-        Event::Read(_, _, Reply::Granted(height)) => Answer::Cell(height),
-        Event::Read(_, _, Reply::Wait(ticket)) => Answer::Wait(ticket),
-        Event::Read(_, _, Reply::Rejected(rejection)) => Answer::Rejected(rejection),
-        Event::Read(_, _, Reply::Refused(refusal)) => Answer::Refused(refusal),
-        Event::Write(_, _, _, Reply::Granted(())) => Answer::Written,
-        Event::Write(_, _, _, Reply::Wait(ticket)) => Answer::Wait(ticket),
-        Event::Write(_, _, _, Reply::Rejected(rejection)) => Answer::Rejected(rejection),
-        Event::Write(_, _, _, Reply::Refused(refusal)) => Answer::Refused(refusal),
-        Event::End(_, Ok((group, end))) => Answer::Ended(group, end),
-        Event::End(_, Err(refusal)) => Answer::Refused(refusal),
-        Event::GiveUp(_, Ok(())) => Answer::GivenUp,
-        Event::GiveUp(_, Err(refusal)) => Answer::Refused(refusal),
-        Event::GroupSize(_, Ok(size)) => Answer::GroupSize(size),
-        Event::GroupSize(_, Err(refusal)) => Answer::Refused(refusal),
+// Why a request is not granted is its answer.
+impl From<NotGranted> for Answer {
+    ghost from_gives = { λ why answer. answer ≡ why_not why };
+
+    fn from(why: NotGranted) -> Answer
+        ensures answer { result ≡ why_not why }
+    {
+        match why {
+            NotGranted::Wait(ticket) => Answer::Wait(ticket),
+            NotGranted::Rejected(rejection) => Answer::Rejected(rejection),
+            NotGranted::Refused(refusal) => Answer::Refused(refusal),
+        }
+    }
+}
+
+// The answer that an event tells of: what was granted, or why nothing was.
+impl From<Event<i32>> for Answer {
+    ghost from_gives = { λ event answer. answer ≡ answer_to event };
+
+    fn from(event: Event<i32>) -> Answer
+        ensures answer { result ≡ answer_to event }
+    {
+        match event {
+            Event::Begin(_, Ok((ticket, group, place))) => Answer::Begun(ticket, group, place),
+            Event::Read(_, _, Ok(height)) => Answer::Cell(height),
+            Event::Write(_, _, _, Ok(())) => Answer::Written,
+            Event::End(_, Ok((group, end))) => Answer::Ended(group, end),
+            Event::GiveUp(_, Ok(())) => Answer::GivenUp,
+            Event::GroupSize(_, Ok(size)) => Answer::GroupSize(size),
+            Event::Read(_, _, Err(why)) | Event::Write(_, _, _, Err(why)) => why.into(),
+            Event::Begin(_, Err(refusal))
+            | Event::End(_, Err(refusal))
+            | Event::GiveUp(_, Err(refusal))
+            | Event::GroupSize(_, Err(refusal)) => Answer::Refused(refusal),
+        }
     }
 }

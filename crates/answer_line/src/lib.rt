@@ -4,5 +4,5 @@
 pub mod answer;
 pub mod line;
 
-pub use answer::{Answer, answer_to};
+pub use answer::Answer;
 pub use line::append_line;

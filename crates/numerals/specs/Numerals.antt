@@ -1,5 +1,5 @@
 -- The numerals of a range of numbers. Assumes nothing.
-use Rattle.std.specs.Prelude.{◌≡◌, ℕ, ◌+◌, ◌-◌, ◌*◌, ◌<◌, ◌≤◌, List, take, Some, None, decimal, Option}
+use Rattle.std.specs.Prelude.{◌≡◌, ◌≢◌, ℕ, ◌+◌, ◌-◌, ◌*◌, ◌<◌, ◌≤◌, List, take, Some, None, decimal, Option, unwrap_or}
 use Rattle.numerals.specs.declared.range.Range.{Range}
 use Rattle.numerals.specs.declared.range.Range.TheVariants as range
 use Rattle.numerals.specs.Places.{Longest}
@@ -31,14 +31,18 @@ pub record Scanned (range : Range) (text : List ℕ) (count value : ℕ) : Type 
   pub below : 0 < count → value ≤ high range
   pub is : 0 < count → take count text ≡ decimal value
 
--- after count digits that write value, the byte is a digit with which a numeral of the range goes on
-pub record GoesOn (count value byte : ℕ) (range : Range) : Type 0 where
+-- the number that the digits so far write; of none, 0
+abbrev pub so_far : Option ℕ → ℕ
+so_far written = unwrap_or written 0
+
+-- after the digits that write a number, if there are any, the byte is a digit with which a numeral of the range goes on
+pub record GoesOn (written : Option ℕ) (byte : ℕ) (range : Range) : Type 0 where
   pub digit : (48 ≤ byte) × (byte ≤ 57)
-  pub first : count ≡ 0 → low range ≤ byte - 48
-  pub later : 0 < count → 0 < value
-  pub fits : value * 10 + (byte - 48) ≤ high range
+  pub no_zero : written ≢ Some 0
+  pub above : low range ≤ so_far written * 10 + (byte - 48)
+  pub below : so_far written * 10 + (byte - 48) ≤ high range
 
 -- the number with that digit, if a numeral goes on so
-abbrev pub Next : ℕ → ℕ → ℕ → Range → Option ℕ → Type 0
-Next count value byte range None = GoesOn count value byte range → ⊥
-Next count value byte range (Some more) = GoesOn count value byte range × (more ≡ value * 10 + (byte - 48))
+abbrev pub Next : Option ℕ → ℕ → Range → Option ℕ → Type 0
+Next written byte range None = GoesOn written byte range → ⊥
+Next written byte range (Some number) = GoesOn written byte range × (number ≡ so_far written * 10 + (byte - 48))

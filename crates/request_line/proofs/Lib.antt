@@ -1,6 +1,5 @@
+mod Figures
 mod Languages
 pub mod LongLines
-mod Parts
 mod Readings
-mod Rows
 mod Whole

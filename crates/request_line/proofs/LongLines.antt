@@ -1,8 +1,9 @@
 -- A line says what its first 36 bytes say, since no permitted line has more than 35. Assumes nothing.
 use Rattle.std.proofs.Common.{ℕ, ◌+◌, ◌<◌, ◌≤◌, List, ◌∷◌, ◌++◌, length, take, ℤ, Ok, Err, decimal, Result, sym, ap, ◌∙◌, subst, ⊎_elim, arith, length-append, length-take-le, take_all, take-take}
 use Rattle.numerals.specs.Places.{Fault}
-use Rattle.request_line.proofs.Readings.{height_mag}
-use Rattle.request_line.proofs.Whole.{body, shown_is}
+use Rattle.request_line.proofs.Figures.{height_mag}
+use Rattle.request_line.proofs.Whole.{shown_is}
+use Rattle.request_line.specs.Words.{body}
 use Rattle.request_line.specs.Lines.{Fits, HeightFits, NumberFits, Permitted, Reads}
 use Rattle.schedule.specs.declared.request.Request.{Request}
 use Rattle.schedule.specs.declared.request.Request.TheVariants as request

@@ -1,16 +1,15 @@
 -- Two requests never share a line, and a line says one thing alone. Assumes nothing.
-use Rattle.std.proofs.Common.{◌≡◌, ℕ, ◌+◌, ◌<◌, ◌≤◌, List, ◌∷◌, ◌++◌, take, drop, ℤ, pos, negsuc, Ok, Err, decimal, Result, sym, refl, ap, ◌∙◌, subst, ⊎_elim, append_assoc, arith, take-append-drop, take-take}
-use lib.Signed.{mag}
+use Rattle.std.proofs.Common.{◌≡◌, ℕ, ◌+◌, ◌<◌, ◌≤◌, List, ◌∷◌, ◌++◌, take, drop, ℤ, pos, Ok, Err, decimal, Result, sym, refl, ap, ◌∙◌, subst, ⊎_elim, append_assoc, arith, take-append-drop, take-take}
 use Rattle.numerals.specs.Places.{Begins, Longest}
+use Rattle.request_line.proofs.Figures.{plain_number, same_height, same_letter}
 use Rattle.request_line.proofs.Languages.{head_eq, split, tail_eq}
-use Rattle.request_line.proofs.Rows.{free, numeric}
-use Rattle.request_line.proofs.Whole.{body, letter_for, same_letter, shown_is}
+use Rattle.request_line.proofs.Whole.{no_request, says_after, shown_is}
+use Rattle.request_line.specs.Words.{NotParted, Parted, RequestAfter, SaysLetter, body, letter_for}
 use Rattle.request_line.specs.declared.word.Letter.{Letter}
 use Rattle.request_line.specs.declared.word.Letter.TheVariants.{Begin, End, GiveUp, GroupSize, Read, Write}
-use Rattle.request_line.specs.Lines.{Fits, HeightFits, NoSharedLine, NumberFits, OnlyReading, Permitted, Reads}
+use Rattle.request_line.specs.Lines.{Fits, NoSharedLine, NumberFits, OnlyReading, Permitted, Reads}
 use Rattle.schedule.specs.declared.request.Request.{Request}
 use Rattle.schedule.specs.declared.request.Request.TheVariants as request
-use Rattle.std.proofs.lemmas.Fmt.{decimal_injective, signed_decimal_injective}
 use Rattle.std.proofs.str.Laws.{order}
 use Rattle.std.specs.Fmt.{signed_decimal}
 
@@ -41,18 +40,11 @@ made (request.GiveUp a) = record { first = a; second = 0; third = pos 0; is = re
 made (request.GroupSize a) = record { first = a; second = 0; third = pos 0; is = refl }
 
 same_number : (a b : ℕ) → NumberFits a → NumberFits b → decimal a ≡ decimal b → a ≡ b
-same_number a b f g e = decimal_injective a b (omega arith) (omega arith) e
-
-pub height_mag : (z : ℤ) → HeightFits z → mag z ≤ 2147483647
-height_mag (pos n) f = f
-height_mag (negsuc n) f = f
-
-same_height : (y z : ℤ) → HeightFits y → HeightFits z → signed_decimal y ≡ signed_decimal z → y ≡ z
-same_height y z f g e = let a = height_mag y f in let b = height_mag z g in signed_decimal_injective y z (omega arith) (omega arith) e
+same_number a b f g e = plain_number.same (decimal a) a b (record { fits = f; is = refl }) (record { fits = g; is = e })
 
 parts : (a b : ℕ) (r m : List ℕ) → NumberFits a → NumberFits b → decimal a ++ (32 ∷ r) ≡ decimal b ++ (32 ∷ m) → (a ≡ b) × (r ≡ m)
 parts a b r m f g e =
-    let s = split 32 (decimal a) (decimal b) r m (free _ (numeric a f)) (free _ (numeric b g)) e in
+    let s = split (decimal a) (decimal b) r m (plain_number.free _ a (record { fits = f; is = refl })) (plain_number.free _ b (record { fits = g; is = refl })) e in
     (same_number a b f g s.0, s.1)
 
 same_made : (k : Letter) (a b : ℕ) (y : ℤ) (c d : ℕ) (z : ℤ) → Fits (make k a b y) → Fits (make k c d z) → body (make k a b y) ≡ body (make k c d z) → make k a b y ≡ make k c d z
@@ -106,3 +98,14 @@ only_reading line (Ok p) s (Ok q) o = ap Ok (no_shared_line q p o.0 s.0 (sym o.1
 only_reading line (Ok p) s (Err n) o = absurd (o.refused (record { request = p; fits = s.0; is = s.1 }))
 only_reading line (Err m) s (Ok q) o = absurd (s.refused (record { request = q; fits = o.0; is = o.1 }))
 only_reading line (Err m) s (Err n) o = ap Err (one_place Permitted line n m o.longest s.longest)
+
+-- of a line that no letter and a space begin
+pub none_other : (line : List ℕ) (p : ℕ) (other : Result (Request ℤ) ℕ) → NotParted SaysLetter line 0 p → Reads line other → other ≡ Err p
+none_other line p other u o = only_reading line (Err p) (no_request line p u) other o
+
+-- of one that they begin
+pub no_other : (k : Letter) (line left : List ℕ) (next : ℕ) (said other : Result (Request ℤ) ℕ) → Parted SaysLetter line 0 left next k → RequestAfter k left next said → Reads line other → other ≡ said
+no_other k line left next said other h m o = only_reading line said (says_after k line left next said h m) other o
+
+-- for the reading of a line
+pub ruleset sole_readings = (no_request, says_after, none_other, no_other, no_shared_line)
