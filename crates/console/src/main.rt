@@ -3,13 +3,11 @@
 
 use book::Book;
 use byte_store::Bytes;
-use engine::Unopened;
 use std::alloc::{AllocError, Global};
 use std::io;
-use std::io::{ErrorKind, Read, Write};
-use store::Store;
-use transcript::{Console, NoMemory};
-use waiting::{Elder, WaitingRule};
+use std::io::{BufRead, BufReader, ErrorKind, Read, Write};
+use transcript::Console;
+use waiting::Elder;
 use window_store::Window;
 
 // How many cells the book has, each of four bytes.
@@ -18,56 +16,54 @@ const CELLS: usize = 8;
 // How much is read at a time.
 const PIECE: usize = 65536;
 
+// The console of the program: over bytes, under the rule elder.
+type ByteConsole<'a> = Console<Window<Bytes<'a>>, Window<Bytes<'a>>, Elder>;
+
 // The answers to what has been read; at the end of the input, when nothing was, the answer to a last line without byte 10.
-fn answer<M: Store<Cell = i32>, D: Store<Cell = i32>, W: WaitingRule>(
-    console: &mut Console<M, D, W>,
+fn answer(
+    console: &mut ByteConsole<'_>,
     piece: &[u8],
     out: &mut Vec<u8>,
 ) -> Result<(), AllocError> {
     if piece.is_empty() {
         return console.finish(out);
     }
-    match console.feed(piece, out) {
-        Ok(()) => Ok(()),
-        Err(NoMemory { taken: _ }) => Err(AllocError),
-    }
+    console.feed(piece, out)?;
+    Ok(())
 }
 
 // One read, its answers and one write: what is answered is written before more is read. Tells whether the input goes on.
-fn turn<M: Store<Cell = i32>, D: Store<Cell = i32>, W: WaitingRule>(
-    input: &mut impl Read,
+fn turn(
+    input: &mut impl BufRead,
     output: &mut impl Write,
-    console: &mut Console<M, D, W>,
-    piece: &mut [u8],
+    console: &mut ByteConsole<'_>,
     out: &mut Vec<u8>,
 ) -> io::Result<bool> {
-    let count = match input.read(piece) {
-        Ok(count) => count,
-        Err(e) => {
-            if e.kind() == ErrorKind::Interrupted {
-                return Ok(true);
-            }
-            return Err(e);
-        }
+    let piece = match input.fill_buf() {
+        Err(e) if e.kind() == ErrorKind::Interrupted => return Ok(true),
+        read => read?,
     };
+    let count = piece.len();
     out.clear();
-    let answered = answer(console, &piece[0..count], out);
+    let answered = answer(console, piece, out);
+    input.consume(count);
     output.write_all(out)?;
     output.flush()?;
     answered?;
     Ok(count > 0)
 }
 
-fn run<M: Store<Cell = i32>, D: Store<Cell = i32>, W: WaitingRule>(
-    heap: Global,
-    input: &mut impl Read,
+// Turn after turn, until the input ends. The number of turns is bounded, since each loop has to end; no run comes so far.
+fn run(
+    alloc: Global,
+    input: impl Read + Drop,
     output: &mut impl Write,
-    console: &mut Console<M, D, W>,
+    console: &mut ByteConsole<'_>,
 ) -> io::Result<()> {
-    let mut piece = vec![in heap; 0u8; PIECE]?;
-    let mut out = Vec::new(heap);
+    let mut input = BufReader::with_capacity(alloc, PIECE, input)?;
+    let mut out = Vec::new(alloc);
     for _ in 0..u64::MAX {
-        if !turn(input, output, console, piece.as_mut_slice(), &mut out)? {
+        if !turn(&mut input, output, console, &mut out)? {
             break;
         }
     }
@@ -79,19 +75,11 @@ fn main(rt: HostRuntime) -> io::Result<()> {
     let mut draft_bytes = [0u8; 4 * CELLS];
     let main = Window::new(Bytes::new(&mut main_bytes), 0, CELLS);
     let draft = Window::new(Bytes::new(&mut draft_bytes), 0, CELLS);
-    match Book::open(rt.alloc(), main, draft, Elder) {
-        Ok(book) => {
-            let mut console = Console::new(book);
-            let done = run(rt.alloc(), &mut rt.stdin(), &mut rt.stdout(), &mut console);
-            let (_, _, _) = console.into_book().close();
-            done
-        }
-        Err(
-            Unopened {
-                main: _,
-                draft: _,
-                rule: _,
-            },
-        ) => Err(AllocError.into()),
-    }
+    let book = Book::open(rt.alloc(), main, draft, Elder).map_err(AllocError::from)?;
+    run(
+        rt.alloc(),
+        rt.stdin(),
+        &mut rt.stdout(),
+        &mut Console::new(book),
+    )
 }

@@ -4,26 +4,12 @@ use schedule::Request;
 
 // Whether the line is refused at the place.
 fn refused_at(line: &[u8], place: usize) -> bool {
-    match read_request(line) {
-        Ok(_) => false,
-        Err(at) => at == place,
-    }
+    read_request(line) == Err(place)
 }
 
 // Whether the line asks for the request.
 fn asks(line: &[u8], request: Request<i32>) -> bool {
-    let Ok(read) = read_request(line) else {
-        return false;
-    };
-    match (read, request) {
-        (Request::Begin(a), Request::Begin(b)) => a == b,
-        (Request::Read(a, c), Request::Read(b, d)) => a == b && c == d,
-        (Request::Write(a, c, x), Request::Write(b, d, y)) => a == b && c == d && x == y,
-        (Request::End(a), Request::End(b)) => a == b,
-        (Request::GiveUp(a), Request::GiveUp(b)) => a == b,
-        (Request::GroupSize(a), Request::GroupSize(b)) => a == b,
-        _ => false,
-    }
+    read_request(line) == Ok(request)
 }
 
 #[test]

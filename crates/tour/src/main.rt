@@ -8,12 +8,11 @@ mod shown;
 
 use book::Book;
 use byte_store::Bytes;
-use engine::Unopened;
-use schedule::{Event, Reply, Request};
+use schedule::{Event, Request};
 use shown::{Hex, Metres, RuleTable, Told};
 use std::io;
 use store::{Outside, Store};
-use waiting::{Classes, Elder, Never, WaitingRule};
+use waiting::{Classes, Elder, Never};
 use window_store::Window;
 
 // The window of a receiver's cells in which the survey's heights lie.
@@ -90,43 +89,8 @@ fn show_the_rules(rt: &impl Print) -> io::Result<()> {
     rt.print(RuleTable(&Classes))
 }
 
-// Submits one request, prints it with its answer, and hands on the height that it read, if any.
-fn ask<M: Store<Cell = i32>, D: Store<Cell = i32>, W: WaitingRule>(
-    rt: &impl Print,
-    book: &mut Book<M, D, W>,
-    request: Request<i32>,
-) -> io::Result<Option<i32>> {
-    let event = book.submit(request);
-    println!(rt; "  {}", Told(event))?;
-    match event {
-        Event::Read(_, _, Reply::Granted(height)) => Ok(Some(height)),
-        _ => Ok(None),
-    }
-}
-
-fn show_main_row<M: Store<Cell = i32>, D: Store<Cell = i32>, W: WaitingRule>(
-    rt: &impl Print,
-    book: &Book<M, D, W>,
-) -> io::Result<()> {
-    print!(rt; "  main row:")?;
-    for cell in 0..book.len() {
-        if let Ok(height) = book.main_cell(cell) {
-            print!(rt; " {}", Metres(height))?;
-        }
-    }
-    println!(rt)
-}
-
-fn show_report<M: Store<Cell = i32>, D: Store<Cell = i32>, W: WaitingRule>(
-    rt: &impl Print,
-    book: &Book<M, D, W>,
-) -> io::Result<()> {
-    let report = book.report();
-    println!(rt;
-        "  jobs: {} begun, {} ended, {} given up, {} rejected, {} open",
-        report.begun, report.ended, report.given_up, report.rejected, report.open
-    )
-}
+// The book of the tour: over bytes, under the rule elder.
+type TourBook<'a> = Book<Window<Bytes<'a>>, Window<Bytes<'a>>, Elder>;
 
 // A crew, job 2, corrects two heights while another job wants to read one of them.
 const SURVEY: [Request<i32>; 6] = [
@@ -145,133 +109,124 @@ const ENDS: [Request<i32>; 4] = [
     Request::End(1),
 ];
 
-fn survey<M: Store<Cell = i32>, D: Store<Cell = i32>, W: WaitingRule>(
-    rt: &impl Print,
-    book: &mut Book<M, D, W>,
-) -> io::Result<()> {
-    show_main_row(rt, book)?;
-    for request in SURVEY {
-        ask(rt, book, request)?;
-    }
-    show_main_row(rt, book)?;
-    for request in ENDS {
-        ask(rt, book, request)?;
-    }
-    show_main_row(rt, book)?;
-    show_report(rt, book)
-}
-
 // The old model's heights, and the new one's.
 const OLD: i32 = 10_000;
 
 const NEW: i32 = 20_000;
 
-// The reader has read two cells; then the other job changes all four and ends; then the reader reads the other two.
-fn straddle<M: Store<Cell = i32>, D: Store<Cell = i32>, W: WaitingRule>(
-    rt: &impl Print,
-    book: &mut Book<M, D, W>,
-    reader: u32,
-    changer: u32,
-) -> io::Result<()> {
-    let first = ask(rt, book, Request::Read(reader, 0))?;
-    let second = ask(rt, book, Request::Read(reader, 1))?;
-    for cell in 0..4 {
-        ask(rt, book, Request::Write(changer, cell, NEW))?;
-    }
-    ask(rt, book, Request::End(changer))?;
-    let third = ask(rt, book, Request::Read(reader, 2))?;
-    let fourth = ask(rt, book, Request::Read(reader, 3))?;
-    ask(rt, book, Request::End(reader))?;
-    let cells = [first, second, third, fourth];
-    let told = if all_are(&cells, OLD) {
-        "has four cells of the old model"
-    } else if all_are(&cells, NEW) {
-        "has four cells of the new model"
-    } else if cells.contains(&None) {
-        "was turned away before it could mix two models"
-    } else {
-        "has cells of two models"
-    };
-    println!(rt; "  The reader {told}.")
+// A book with who shows it: each request is printed with its answer.
+#[derive(Drop)]
+struct Guide<'a, 'b, P: Print> {
+    rt: &'a P,
+    book: &'a mut TourBook<'b>,
 }
 
-// Whether all four cells were read, and each gave this height.
-fn all_are(cells: &[Option<i32>], height: i32) -> bool {
-    for cell in cells {
-        if *cell != Some(height) {
-            return false;
+impl<'a, 'b, P: Print> Guide<'a, 'b, P> {
+    // Submits one request, prints it with its answer, and hands on the height that it read, if any.
+    fn ask(&mut self, request: Request<i32>) -> io::Result<Option<i32>> {
+        let event = self.book.submit(request);
+        println!(self.rt; "  {}", Told(event))?;
+        match event {
+            Event::Read(_, _, Ok(height)) => Ok(Some(height)),
+            _ => Ok(None),
         }
     }
-    true
-}
 
-// Begins two jobs in groups of this size, and lets one read across the other's change of model.
-fn change_of_model<M: Store<Cell = i32>, D: Store<Cell = i32>, W: WaitingRule>(
-    rt: &impl Print,
-    book: &mut Book<M, D, W>,
-    group_size: u32,
-    reader: u32,
-    changer: u32,
-) -> io::Result<()> {
-    ask(rt, book, Request::GroupSize(group_size))?;
-    ask(rt, book, Request::Begin(0))?;
-    ask(rt, book, Request::Begin(0))?;
-    straddle(rt, book, reader, changer)
-}
+    fn show_main_row(&self) -> io::Result<()> {
+        print!(self.rt; "  main row:")?;
+        for cell in 0..self.book.len() {
+            if let Ok(height) = self.book.main_cell(cell) {
+                print!(self.rt; " {}", Metres(height))?;
+            }
+        }
+        println!(self.rt)
+    }
 
-// What a book of 4 cells is opened for.
-#[derive(Clone, Copy)]
-enum Task {
-    Survey,
-    // the group size, the reader and the job that changes the model
-    ChangeOfModel(u32, u32, u32),
-}
+    fn show_report(&self) -> io::Result<()> {
+        let report = self.book.report();
+        println!(self.rt;
+            "  jobs: {} begun, {} ended, {} given up, {} rejected, {} open",
+            report.begun, report.ended, report.given_up, report.rejected, report.open
+        )
+    }
 
-fn carry_out<M: Store<Cell = i32>, D: Store<Cell = i32>, W: WaitingRule>(
-    rt: &impl Print,
-    book: &mut Book<M, D, W>,
-    task: Task,
-) -> io::Result<()> {
-    match task {
-        Task::Survey => survey(rt, book),
-        Task::ChangeOfModel(size, reader, changer) => change_of_model(
-            rt, book, size, reader, changer,
-        ),
+    fn survey(&mut self) -> io::Result<()> {
+        self.show_main_row()?;
+        for request in SURVEY {
+            self.ask(request)?;
+        }
+        self.show_main_row()?;
+        for request in ENDS {
+            self.ask(request)?;
+        }
+        self.show_main_row()?;
+        self.show_report()
+    }
+
+    // The reader has read two cells; then the other job changes all four and ends; then the reader reads the other two.
+    fn straddle(&mut self, reader: u32, changer: u32) -> io::Result<()> {
+        let first = self.ask(Request::Read(reader, 0))?;
+        let second = self.ask(Request::Read(reader, 1))?;
+        for cell in 0..4 {
+            self.ask(Request::Write(changer, cell, NEW))?;
+        }
+        self.ask(Request::End(changer))?;
+        let third = self.ask(Request::Read(reader, 2))?;
+        let fourth = self.ask(Request::Read(reader, 3))?;
+        self.ask(Request::End(reader))?;
+        let cells = [first, second, third, fourth];
+        let told = if cells == [Some(OLD); 4] {
+            "has four cells of the old model"
+        } else if cells == [Some(NEW); 4] {
+            "has four cells of the new model"
+        } else if cells.contains(&None) {
+            "was turned away before it could mix two models"
+        } else {
+            "has cells of two models"
+        };
+        println!(self.rt; "  The reader {told}.")
+    }
+
+    // Begins two jobs in groups of this size, and lets one read across the other's change of model.
+    fn change_of_model(&mut self, group_size: u32, reader: u32, changer: u32) -> io::Result<()> {
+        self.ask(Request::GroupSize(group_size))?;
+        self.ask(Request::Begin(0))?;
+        self.ask(Request::Begin(0))?;
+        self.straddle(reader, changer)
     }
 }
 
 // Opens a book over two rows of bytes, carries out the task, and closes the book.
-fn with_a_book(rt: &(impl Print + AllocGlobal), heights: [i32; 4], task: Task) -> io::Result<()> {
+fn with_a_book<P: Print + AllocGlobal, F: FnOnce(&mut Guide<'_, '_, P>) -> io::Result<()>>(
+    rt: &P,
+    heights: [i32; 4],
+    task: F,
+) -> io::Result<()>
+    requires { F.IsAlwaysCallable task }
+{
     let mut main_bytes = [0u8; 16];
     let mut draft_bytes = [0u8; 16];
     correct_all(&mut main_bytes, &heights);
     let main = Window::new(Bytes::new(&mut main_bytes), 0, 4);
     let draft = Window::new(Bytes::new(&mut draft_bytes), 0, 4);
-    match Book::open(rt.alloc(), main, draft, Elder) {
-        Ok(mut book) => {
-            let done = carry_out(rt, &mut book, task);
-            let (_, _, _) = book.close();
-            done
-        }
-        Err(
-            Unopened {
-                main: _,
-                draft: _,
-                rule: _,
-            },
-        ) => println!(rt; "  no memory for the book"),
-    }
+    let Ok(mut book) = Book::open(rt.alloc(), main, draft, Elder) else {
+        return println!(rt; "  no memory for the book");
+    };
+    task(&mut Guide {
+        rt,
+        book: &mut book,
+    })
 }
 
 fn main(rt: HostRuntime) -> io::Result<()> {
     work_on_a_receiver(&rt)?;
     show_the_rules(&rt)?;
     println!(rt; "A book of 4 cells under the rule elder: a crew corrects two heights.")?;
-    with_a_book(&rt, [1_234_567, 1_234_512, 0, 0], Task::Survey)?;
+    with_a_book(&rt, [1_234_567, 1_234_512, 0, 0], |guide| guide.survey())?;
     println!(rt; "A change of model by a job of a later group than the reader's:")?;
-    with_a_book(&rt, [OLD, OLD, OLD, OLD], Task::ChangeOfModel(1, 1, 2))?;
+    with_a_book(&rt, [OLD; 4], |guide| guide.change_of_model(1, 1, 2))?;
     println!(rt; "A change of model by a job of the same group:")?;
-    with_a_book(&rt, [OLD, OLD, OLD, OLD], Task::ChangeOfModel(8, 1, 2))?;
+    with_a_book(&rt, [OLD; 4], |guide| guide.change_of_model(8, 1, 2))?;
     println!(rt; "A change of model by a job of an earlier group:")?;
-    with_a_book(&rt, [OLD, OLD, OLD, OLD], Task::ChangeOfModel(1, 2, 1))
+    with_a_book(&rt, [OLD; 4], |guide| guide.change_of_model(1, 2, 1))
 }

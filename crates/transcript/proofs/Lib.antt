@@ -1,5 +1,4 @@
 pub mod Answered
-pub mod Fronts
 pub mod LongLines
 pub mod Pieces
 pub mod Running

@@ -1,7 +1,8 @@
 -- Pieces of an input one after the other, and what may be forgotten of a long line.
-use Rattle.std.proofs.Common.{◌≡◌, ℕ, zero, suc, ◌+◌, ◌<◌, ◌≤◌, Bool, true, false, cond, eqb, List, [], ◌∷◌, ◌++◌, length, get_or, take, sym, refl, ap, ◌∙◌, subst, append_assoc, append-nil, arith, lit≤}
-use Rattle.std.proofs.lemmas.List.{take_all, take_more, take-take}
-use Rattle.transcript.specs.Lines.{AllAnswered, Answering, Completes, Finished, GoesOn, Taken, Takes, last_line, lines_after}
+use Rattle.std.proofs.Common.{◌≡◌, ℕ, zero, suc, ◌+◌, ◌<◌, Bool, true, false, cond, eqb, List, [], ◌∷◌, ◌++◌, length, get_or, take, sym, refl, ap, ◌∙◌, subst, append_assoc, append-nil, arith, lit≤}
+use Rattle.std.proofs.lemmas.Grind.{common_steps}
+use Rattle.std.proofs.lemmas.List.{take_more, take-take}
+use Rattle.transcript.specs.Lines.{AllAnswered, Answering, Completes, Finished, GoesOn, Taken, Takes, Told, last_line, lines_after}
 
 -- a front is as good as the whole for the front of what it is the start of
 front_extended : (n : ℕ) (x ys : List ℕ) → take n (take n x ++ ys) ≡ take n (x ++ ys)
@@ -13,10 +14,6 @@ fronts_extended : (n : ℕ) (x y ys : List ℕ) → take n x ≡ take n y → ta
 fronts_extended n x y ys e = sym (front_extended n x ys) ∙ ap (λ (l : List ℕ). take n (l ++ ys)) e ∙ front_extended n y ys
 
 module _ {B : Type 0} (Answers : Answering B) where
-  -- no piece at all
-  pub takes_none : (b : B) (line : List ℕ) → Takes Answers b line [] [] b line
-  takes_none b line rest more b' a = a
-
   -- one piece after the other
   pub takes_both : (b : B) (line piece texts : List ℕ) (b₁ : B) (line₁ piece₁ texts₁ : List ℕ) (b₂ : B) (line₂ : List ℕ)
       → Takes Answers b line piece texts b₁ line₁
@@ -25,16 +22,12 @@ module _ {B : Type 0} (Answers : Answering B) where
   takes_both b line piece texts b₁ line₁ piece₁ texts₁ b₂ line₂ s t rest more b' a =
       rw (append_assoc, append_assoc) (s (piece₁ ++ rest) (texts₁ ++ more) b' (t rest more b' a))
 
-  -- byte 10 ends the line, which is answered
-  pub takes_newline : (b : B) (line : List ℕ) (x : ℕ) (text : List ℕ) (b₁ : B) → eqb x 10 ≡ true → Answers line b text b₁ → Takes Answers b line (x ∷ []) text b₁ []
-  takes_newline b line x text b₁ is answered rest more b' a = rw is (text, more, b₁, refl, answered, a)
-
   -- a last line, which is not empty, is answered too
   pub last_answered : (b : B) (line text : List ℕ) (b₁ : B) → 0 < length line → Answers line b text b₁ → AllAnswered Answers b (lines_after line []) text b₁
   last_answered b [] text b₁ some answered = absurd (omega arith)
   last_answered b (x ∷ line) text b₁ some answered = (text, [], b₁, sym (append-nil text), answered, (refl, refl))
 
-  -- any other byte goes on with the line
+  -- a byte that is not 10 goes on with the line
   pub takes_byte : (b : B) (line : List ℕ) (x : ℕ) → eqb x 10 ≡ false → Takes Answers b line (x ∷ []) [] b (line ++ x ∷ [])
   takes_byte b line x other rest more b' a = rw other a
 
@@ -63,7 +56,7 @@ module _ {B : Type 0} (Answers : Answering B) where
         byte_alike (eqb c 10) x y (x ++ c ∷ []) (y ++ c ∷ []) rest more b b' e
         (front_is_enough (x ++ c ∷ []) (y ++ c ∷ []) rest more b b' (fronts_extended 36 x y (c ∷ []) e)) a
 
-    -- any other byte than 10, of which no more is kept than the front of the line has room for
+    -- such a byte, of which no more is kept than the front of the line has room for
     pub takes_kept : (b : B) (line : List ℕ) (x : ℕ) → eqb x 10 ≡ false → Takes Answers b line (x ∷ []) [] b (take 36 (line ++ x ∷ []))
     takes_kept b line x other rest more b' a =
         takes_byte b line x other rest more b'
@@ -71,47 +64,52 @@ module _ {B : Type 0} (Answers : Answering B) where
 
 -- ---- what has been told in all ----
 
-module _ {B : Type 0} (Answers : Answering B) (b : B) (line : List ℕ) where
-  -- nothing is taken
-  pub taken_same : (told : List ℕ) (b₁ : B) (told₁ : List ℕ) → b₁ ≡ b → told₁ ≡ told → Taken Answers b line [] told b₁ line told₁
-  taken_same told b₁ told₁ e t =
-      record { texts = []; appended = t ∙ sym (append-nil told); takes = subst (λ (x : B). Takes Answers b line [] [] x line) (sym e) (takes_none Answers b line) }
-
-  pub taken_both : (piece told : List ℕ) (b₁ : B) (line₁ piece₁ told₁ : List ℕ) (b₂ : B) (line₂ told₂ : List ℕ)
+module _ {B : Type 0} {Answers : Answering B} {b : B} {line piece told : List ℕ} {b₁ : B} {line₁ told₁ : List ℕ} where
+  -- one piece after the other, where the second is answered the same
+  pub taken_both : {Later : Answering B} {piece₁ : List ℕ} {b₂ : B} {line₂ told₂ : List ℕ} → Later ≡ Answers
       → Taken Answers b line piece told b₁ line₁ told₁
-      → Taken Answers b₁ line₁ piece₁ told₁ b₂ line₂ told₂
+      → Taken Later b₁ line₁ piece₁ told₁ b₂ line₂ told₂
       → Taken Answers b line (piece ++ piece₁) told b₂ line₂ told₂
-  taken_both piece told b₁ line₁ piece₁ told₁ b₂ line₂ told₂ s t =
+  taken_both {piece₁ = piece₁} {b₂ = b₂} {line₂ = line₂} {told₂ = told₂} same s later =
+      let t = subst (λ (A : Answering B). Taken A b₁ line₁ piece₁ told₁ b₂ line₂ told₂) same later in
       record {
         texts = s.texts ++ t.texts;
         appended = t.appended ∙ ap (λ (l : List ℕ). l ++ t.texts) s.appended ∙ append_assoc told s.texts t.texts;
         takes = takes_both Answers b line piece s.texts b₁ line₁ piece₁ t.texts b₂ line₂ s.takes t.takes;
       }
 
-  pub goes_on : (piece told : List ℕ) (b₁ : B) (line₁ told₁ : List ℕ) → Taken Answers b line piece told b₁ line₁ told₁ → GoesOn Answers b line piece told b₁ line₁ told₁
-  goes_on piece told b₁ line₁ told₁ t b₀ input texts s =
+  pub goes_on : Taken Answers b line piece told b₁ line₁ told₁ → GoesOn Answers b line piece told b₁ line₁ told₁
+  unfolding GoesOn
+  goes_on t b₀ input texts s =
       (t.texts, t.appended, takes_both Answers b₀ [] input texts b line piece t.texts b₁ line₁ s t.takes)
 
-  pub completes : (told : List ℕ) (b₁ : B) (told₁ : List ℕ) → Finished Answers b line told b₁ told₁ → Completes Answers b line told b₁ told₁
-  completes told b₁ told₁ f b₀ input texts s =
+-- one byte more of a piece
+pub taken_one_more : {B : Type 0} {Answers Later : Answering B} {b : B} {line told : List ℕ} {b₁ : B} {line₁ told₁ : List ℕ} {b₂ : B} {line₂ told₂ : List ℕ}
+    (piece : List ℕ) (i : ℕ) → i < length piece → Later ≡ Answers
+    → Taken Answers b line (take i piece) told b₁ line₁ told₁
+    → Taken Later b₁ line₁ (get_or piece i 0 ∷ []) told₁ b₂ line₂ told₂
+    → Taken Answers b line (take (i + 1) piece) told b₂ line₂ told₂
+taken_one_more piece i inside same s t = rw (take_more piece i 0 inside) (taken_both same s t)
+
+-- ---- the end of the input ----
+
+module _ {B : Type 0} (Answers : Answering B) (b : B) (line told : List ℕ) where
+  -- what is finished is the whole input
+  completes : (b₁ : B) (told₁ : List ℕ) → Finished Answers b line told b₁ told₁ → Completes Answers b line told b₁ told₁
+  unfolding Completes
+  completes b₁ told₁ f b₀ input texts s =
       (f.texts, f.appended, rw append-nil at (s [] f.texts b₁ f.answered))
 
-  -- ---- byte by byte ----
+  -- the input ends where no line is begun
+  pub completes_there : length line ≡ 0 → Completes Answers b line told b told
+  completes_there none =
+      let ended : Finished Answers b line told b told = grind (arith, common_steps) in
+      completes b told ended
 
-  module _ (Later : Answering B) (same : Later ≡ Answers) (piece told : List ℕ) (b₁ : B) (line₁ told₁ : List ℕ) (b₂ : B) (line₂ told₂ : List ℕ) where
-    -- nothing more is taken
-    pub taken_no_more : Taken Answers b line piece told b₁ line₁ told₁ → Taken Later b₁ line₁ [] told₁ b₂ line₂ told₂ → Taken Answers b line piece told b₂ line₂ told₂
-    taken_no_more s t =
-        subst (λ (p : List ℕ). Taken Answers b line p told b₂ line₂ told₂) (append-nil piece)
-        (taken_both piece told b₁ line₁ [] told₁ b₂ line₂ told₂ s (subst (λ (A : Answering B). Taken A b₁ line₁ [] told₁ b₂ line₂ told₂) same t))
+  -- the input ends with a line that is not empty, and is answered
+  pub completes_by_line : (b₁ : B) (told₁ : List ℕ) → 0 < length line → Told Answers b line told b₁ told₁ → Completes Answers b line told b₁ told₁
+  completes_by_line b₁ told₁ some t =
+      completes b₁ told₁ (record { texts = t.text; appended = t.appended; answered = last_answered Answers b line t.text b₁ some t.answered })
 
-    pub taken_one_more : (i : ℕ) → i < length piece
-        → Taken Answers b line (take i piece) told b₁ line₁ told₁
-        → Taken Later b₁ line₁ (get_or piece i 0 ∷ []) told₁ b₂ line₂ told₂
-        → Taken Answers b line (take (i + 1) piece) told b₂ line₂ told₂
-    taken_one_more i l s t =
-        subst (λ (p : List ℕ). Taken Answers b line p told b₂ line₂ told₂) (sym (take_more piece i 0 l))
-        (taken_both (take i piece) told b₁ line₁ (get_or piece i 0 ∷ []) told₁ b₂ line₂ told₂ s (subst (λ (A : Answering B). Taken A b₁ line₁ (get_or piece i 0 ∷ []) told₁ b₂ line₂ told₂) same t))
-
-  pub taken_all : (piece told : List ℕ) (b₁ : B) (line₁ told₁ : List ℕ) (i : ℕ) → length piece ≤ i → Taken Answers b line (take i piece) told b₁ line₁ told₁ → Taken Answers b line piece told b₁ line₁ told₁
-  taken_all piece told b₁ line₁ told₁ i l t = subst (λ (p : List ℕ). Taken Answers b line p told b₁ line₁ told₁) (take_all i piece l) t
+-- what the end of an input needs
+pub ruleset ending = (goes_on, completes_there, completes_by_line)

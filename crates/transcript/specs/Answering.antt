@@ -4,18 +4,12 @@ use Rattle.answer_line.specs.Answers.{answer_to}
 use Rattle.answer_line.specs.declared.answer.Answer.{Answer}
 use Rattle.answer_line.specs.declared.answer.Answer.TheVariants as answer
 use Rattle.answer_line.specs.Text.{text}
-use Rattle.book.specs.declared.height_book.Book as height
-use Rattle.engine.specs.Contents.{book_of}
 use Rattle.request_line.specs.Lines.{Reads}
 use Rattle.schedule.specs.Books.{Book}
 use Rattle.schedule.specs.declared.request.Request.{Request}
 use Rattle.schedule.specs.Verdicts.{May}
 use Rattle.theorem.specs.Histories.{History, effects}
 use Rattle.theorem.specs.Theorem.{KeepsSerializable, Run, SerializableWithoutDeadlock, step}
-
--- what a book holds: the rows of its two stores and the state of its ledger
-abbrev pub contents : {M D W C : Type 0} → (M → List C) → (D → List C) → height.Book M D W C → Book C
-contents main_row draft_row b = book_of main_row draft_row b.engine
 
 -- what a line says is answered, and the book after it: a request by the book itself, a line that is none by refusal 10 with
 -- the place where it goes wrong, and then the book stays as it is
@@ -41,7 +35,7 @@ pub record KeepsSerializableByLine (may : May) (line : List ℕ) (before after :
 
 -- the theorem over any number of lines: whatever run led to the book before them, it goes on to the book after them, and
 -- all of the theorem holds there
-abbrev pub RunsOn : May → Book ℤ → Book ℤ → Type 0
+unfoldable pub RunsOn : May → Book ℤ → Book ℤ → Type 0
 RunsOn may before after =
     (first : List ℤ) (h : History ℤ)
     → Run may first h before

@@ -1,4 +1,3 @@
 pub mod Answering
 pub mod Consoles
-pub mod Fronts
 pub mod Lines

@@ -57,14 +57,14 @@ abbrev pub SoFar : {B : Type 0} → Answering B → B → List ℕ → List ℕ 
 SoFar Answers b₀ input texts b line = Takes Answers b₀ [] input texts b line
 
 -- whatever came so far, with this piece more has come
-abbrev pub GoesOn : {B : Type 0} → Answering B → B → List ℕ → List ℕ → List ℕ → B → List ℕ → List ℕ → Type 0
+unfoldable pub GoesOn : {B : Type 0} → Answering B → B → List ℕ → List ℕ → List ℕ → B → List ℕ → List ℕ → Type 0
 GoesOn {B = B} Answers b line piece told b₁ line₁ told₁ =
     (b₀ : B) (input texts : List ℕ)
     → SoFar Answers b₀ input texts b line
     → (new : List ℕ) × (told₁ ≡ told ++ new) × SoFar Answers b₀ (input ++ piece) (texts ++ new) b₁ line₁
 
 -- whatever came so far, that is the input, and with what is told at its end the texts are its transcript
-abbrev pub Completes : {B : Type 0} → Answering B → B → List ℕ → List ℕ → B → List ℕ → Type 0
+unfoldable pub Completes : {B : Type 0} → Answering B → B → List ℕ → List ℕ → B → List ℕ → Type 0
 Completes {B = B} Answers b line told b₁ told₁ =
     (b₀ : B) (input texts : List ℕ)
     → SoFar Answers b₀ input texts b line

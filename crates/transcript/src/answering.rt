@@ -1,7 +1,8 @@
-ghost use Rattle.std.specs.Prelude.{◌≡◌, ℕ, true, List, ◌++◌, ℤ, is_ok, MatchResult};
-ghost use Rattle.transcript.specs.Answering.{AnswersLine, AnswersSo, KeepsSerializableByLine, contents};
+ghost use Rattle.std.specs.Prelude.{◌≡◌, OnErr, OnOk};
+ghost use Rattle.transcript.specs.Answering.{AnswersLine, AnswersSo, KeepsSerializableByLine, RunsOn};
+ghost use Rattle.transcript.specs.Lines.{Told};
 
-use answer_line::{Answer, answer_to, append_line};
+use answer_line::{Answer, append_line};
 use book::Book;
 use request_line::read_request;
 use std::alloc::AllocError;
@@ -10,14 +11,18 @@ use waiting::WaitingRule;
 
 // A line of bytes is answered by a line of text, which is appended. Where there is no memory for the answer, nothing has
 // happened: there is room for it before the line is carried out.
+#[tactic(auto, using(crate::proofs::Running::runs_still))]
 pub fn answer_line<M: Store<Cell = i32>, D: Store<Cell = i32>, W: WaitingRule>(
     book: &mut Book<M, D, W>,
     line: &[u8],
     out: &mut Vec<u8>,
 ) -> Result<(), AllocError>
-    ensures answer_and_book_after { MatchResult result (λ _. (told : List ℕ) × (out.new.items ≡ out.old.items ++ told) × AnswersLine (W.WaitingRule.may book.old.engine.rule) line.now (contents M.Store.row D.Store.row book.old) told (contents M.Store.row D.Store.row book.new)) (λ _. (out.new.items ≡ out.old.items) × (contents M.Store.row D.Store.row book.new ≡ contents M.Store.row D.Store.row book.old)) }
-    ensures rule_kept { book.new.engine.rule ≡ book.old.engine.rule }
-    ensures serializable_without_deadlock { is_ok result ≡ true → KeepsSerializableByLine (W.WaitingRule.may book.old.engine.rule) line.now (contents M.Store.row D.Store.row book.old) (contents M.Store.row D.Store.row book.new) }
+    ensures answered { OnOk result (Told (AnswersLine (W.WaitingRule.may book.old.rule)) book.old.book line.now out.old.items book.new.book out.new.items) }
+    ensures nothing_told_on_error { OnErr result (out.new.items ≡ out.old.items) }
+    ensures book_kept_on_error { OnErr result (book.new.book ≡ book.old.book) }
+    ensures rule_kept { book.new.rule ≡ book.old.rule }
+    ensures serializable_without_deadlock { OnOk result (KeepsSerializableByLine (W.WaitingRule.may book.old.rule) line.now book.old.book book.new.book) }
+    ensures run_goes_on { RunsOn (W.WaitingRule.may book.old.rule) book.old.book book.new.book }
 {
     out.reserve(64)?;
     let answer = carry_out(book, line);
@@ -25,16 +30,18 @@ pub fn answer_line<M: Store<Cell = i32>, D: Store<Cell = i32>, W: WaitingRule>(
 }
 
 // What the line is answered: its request by the book, or that it is none.
+#[tactic(auto, using(crate::proofs::Running::runs_still))]
 fn carry_out<M: Store<Cell = i32>, D: Store<Cell = i32>, W: WaitingRule>(
     book: &mut Book<M, D, W>,
     line: &[u8],
 ) -> Answer
-    ensures answer_and_book_after { AnswersSo (W.WaitingRule.may book.old.engine.rule) line.now (contents M.Store.row D.Store.row book.old) result (contents M.Store.row D.Store.row book.new) }
-    ensures rule_kept { book.new.engine.rule ≡ book.old.engine.rule }
-    ensures serializable_without_deadlock { KeepsSerializableByLine (W.WaitingRule.may book.old.engine.rule) line.now (contents M.Store.row D.Store.row book.old) (contents M.Store.row D.Store.row book.new) }
+    ensures answer_and_book_after { AnswersSo (W.WaitingRule.may book.old.rule) line.now book.old.book result book.new.book }
+    ensures rule_kept { book.new.rule ≡ book.old.rule }
+    ensures serializable_without_deadlock { KeepsSerializableByLine (W.WaitingRule.may book.old.rule) line.now book.old.book book.new.book }
+    ensures run_goes_on { RunsOn (W.WaitingRule.may book.old.rule) book.old.book book.new.book }
 {
     match read_request(line) {
-        Ok(request) => answer_to(&book.submit(request)),
+        Ok(request) => Answer::from(book.submit(request)),
         Err(place) => Answer::NoRequest(place),
     }
 }

@@ -3,7 +3,6 @@
 
 pub mod answering;
 pub mod console;
-pub mod front;
 
 pub use answering::answer_line;
 pub use console::{Console, NoMemory};

@@ -1,19 +1,11 @@
-use Rattle.transcript.proofs.Answered.{submitted, submitted_keeps}
+use Rattle.transcript.proofs.Answered.{submitted_keeps}
 use Rattle.transcript.proofs.answering.carry_out.Goals as goal
-use Rattle.transcript.specs.Answering.{contents}
+use Rattle.transcript.proofs.Running.{runs_by_request}
 
-pub returns-in-Ok : goal.returns-in-Ok
-returns-in-Ok g c =
-    let before = contents g.M.Store.row g.D.Store.row c.args.book.now in
-    let after = contents g.M.Store.row g.D.Store.row c.submit.new.self in
-    let may = g.W.WaitingRule.may c.args.book.now.engine.rule in
-    let line = c.args.line.now in
-    let step = c.submit.ensures.event_and_book_after in
-    let read = c.in-Ok.ensures in
-    record {
-      answer_and_book_after =
-          submitted may line before after c.in-Ok.request c.submit.result step c.answer_to.result c.answer_to.ensures.answer read.request_or_place;
-      rule_kept = c.submit.ensures.rule_kept;
-      serializable_without_deadlock =
-          submitted_keeps may line before after c.in-Ok.request c.submit.result step read.only_reading c.submit.ensures.serializable_without_deadlock;
-    }
+pub returns-in-Ok-clause-serializable_without_deadlock : goal.returns-in-Ok-clause-serializable_without_deadlock
+returns-in-Ok-clause-serializable_without_deadlock g c =
+    let step = c.submit.ensures in
+    submitted_keeps _ c.args.line.now _ _ c.in-Ok.request c.submit.result step.event_and_book_after c.in-Ok.ensures.only_reading step.serializable_without_deadlock
+
+pub returns-in-Ok-clause-run_goes_on : goal.returns-in-Ok-clause-run_goes_on
+returns-in-Ok-clause-run_goes_on g c = runs_by_request _ c.submit.result _ _ c.submit.ensures.serializable_without_deadlock
