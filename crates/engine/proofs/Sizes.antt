@@ -1,20 +1,16 @@
 -- In a book that has as many records as its size says, a read's refusal changes nothing, and 5 comes exactly past the end.
-use Rattle.std.proofs.Common.{◌≡◌, ℕ, length, Ok, Err, List, slice_set, subst, arith, length-set}
+use Rattle.std.proofs.Common.{◌≡◌, ℕ, length, Ok, Err, List, slice_set, arith, length-set}
 use Rattle.engine.specs.Promises.{PastTheEndExactly}
 use Rattle.schedule.proofs.Admitting.{admitted_outside, admitted_outside_only}
-use Rattle.schedule.proofs.Sizes.{sized_after}
 use Rattle.schedule.specs.Answers.{Reply}
-use Rattle.schedule.specs.Books.{Book, book, book_read, book_write}
+use Rattle.schedule.specs.Books.{Book, book_read, book_write}
 use Rattle.schedule.specs.declared.answer.NotGranted.TheVariants as not_granted
 use Rattle.schedule.specs.declared.answer.Refusal.TheVariants as refusal
 use Rattle.schedule.specs.declared.job.Kind.{Kind}
 use Rattle.schedule.specs.declared.job.Kind.TheVariants as kind
-use Rattle.schedule.specs.declared.request.Request.TheVariants as request
-use Rattle.schedule.specs.declared.verdict.Source.{Source}
 use Rattle.schedule.specs.Promises.{RefusalKeeps}
 use Rattle.schedule.specs.Reachable.{Sized}
-use Rattle.schedule.specs.States.{State}
-use Rattle.schedule.specs.Steps.{admitted, read_step}
+use Rattle.schedule.specs.Steps.{admitted}
 use Rattle.schedule.specs.Verdicts.{May}
 use Rattle.std.proofs.lemmas.Bool.Decides.{nat_tests}
 use Rattle.std.proofs.lemmas.Option.{slice_get_cases}
@@ -22,12 +18,6 @@ use Rattle.std.proofs.lemmas.Option.{slice_get_cases}
 -- a put keeps the number of cells
 pub put_keeps_length : {C : Type 0} (row : List C) (i : ℕ) (c : C) → length (slice_set row i c) ≡ length row
 put_keeps_length row i c = length-set row i c
-
--- a read keeps the number of records
-pub sized_after_read : {C : Type 0} (may : May) (main draft : List C) (s s' : State) (ticket cell : ℕ) (r : Reply Source)
-    → read_step may s ticket cell ≡ (r, s') → Sized (book main draft s) → Sized (book main draft s')
-sized_after_read may main draft s s' ticket cell r e sized =
-    subst (λ (x : Reply Source × State). Sized (book main draft x.1)) e (sized_after may (book main draft s) (request.Read ticket cell) sized)
 
 module _ {C : Type 0} (may : May) (b : Book C) (sized : Sized b) (ticket cell : ℕ) where
   pub read_refusal_keeps : (r : Reply C) (after : Book C) → book_read may b ticket cell ≡ (r, after) → RefusalKeeps r b after

@@ -81,6 +81,7 @@ impl Ledger {
 
 impl Ledger {
     // The open job with this ticket.
+    #[tactic(auto, using(roster::proofs::Finds::find_is_position))]
     fn seated(&self, ticket: u32) -> Result<Seated, Refusal>
         ensures seated { result ≡ seated self.now.jobs ticket }
         ensures seated_in { IfOk result (λ p. SeatedIn self.now.jobs ticket p) }

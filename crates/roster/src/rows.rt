@@ -1,5 +1,5 @@
-ghost use Rattle.std.specs.Prelude.{◌≡◌, [], replicate, IfOk, Some, None, slice_set};
-ghost use Rattle.schedule.specs.Jobs.{closed_rows, find, holds, job_in, vacant, wait_set};
+ghost use Rattle.std.specs.Prelude.{◌≡◌, [], replicate, IfOk, Some, None, position, slice_set};
+ghost use Rattle.schedule.specs.Jobs.{closed_rows, holds, job_in, vacant, wait_set};
 ghost use Rattle.std.specs.Global.{Global};
 
 use schedule::{Job, Wait, job_in};
@@ -55,7 +55,7 @@ impl JobRows {
 
     // The row of the open job with this ticket.
     pub fn row_of(&self, ticket: u32) -> Option<usize>
-        ensures row_found { result ≡ find (holds ticket) self.now }
+        ensures row_found { result ≡ position (holds ticket) self.now }
     {
         self.rows
             .iter()
@@ -64,7 +64,7 @@ impl JobRows {
 
     // The first free row.
     pub fn free_row(&self) -> Option<usize>
-        ensures row_found { result ≡ find vacant self.now }
+        ensures row_found { result ≡ position vacant self.now }
     {
         self.rows.iter().position(Option::is_none)
     }

@@ -53,6 +53,7 @@ impl Ledger {
     }
 
     // A job begins: its ticket, its group and its place in the group.
+    #[tactic(auto, using(roster::proofs::Finds::find_is_position))]
     pub fn begin(&mut self, class: u32) -> Result<(u32, u32, u32), Refusal>
         ensures answer_and_state_after { begin_step self.old class ≡ (result, self.new) }
     {

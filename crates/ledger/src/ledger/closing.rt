@@ -20,6 +20,7 @@ impl Ledger {
     }
 
     // The open job with this ticket gives up.
+    #[tactic(auto, using(roster::proofs::Finds::find_is_position))]
     pub fn give_up(&mut self, ticket: u32) -> Result<(), Refusal>
         ensures answer_and_state_after { give_up_step self.old ticket ≡ (result, self.new) }
     {
