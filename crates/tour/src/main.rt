@@ -196,7 +196,7 @@ impl<'a, 'b, P: Print> Guide<'a, 'b, P> {
     }
 }
 
-// Opens a book over two rows of bytes, carries out the task, and closes the book.
+// Opens a book over two rows of bytes and carries out the task with it.
 fn with_a_book<P: Print + AllocGlobal, F: FnOnce(&mut Guide<'_, '_, P>) -> io::Result<()>>(
     rt: &P,
     heights: [i32; 4],
