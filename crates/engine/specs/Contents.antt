@@ -1,4 +1,5 @@
 -- What a caller sees of an open book.
+use Rattle.std.specs.Prelude.{◌≡◌, List}
 use Rattle.schedule.specs.Books.{Book}
 
 -- its stores, its waiting rule, and the book: the rows of the stores beside the state of the ledger
@@ -7,3 +8,7 @@ pub record Contents (M D W C : Type 0) : Type 0 where
   pub draft : D
   pub rule : W
   pub book : Book C
+
+-- the book's two rows are the rows of its stores, as a store's kind reads them
+abbrev pub RowsOfStores : {M D W C : Type 0} → (M → List C) → (D → List C) → Contents M D W C → Type 0
+RowsOfStores main_row draft_row c = (main_row c.main ≡ c.book.main) × (draft_row c.draft ≡ c.book.draft)

@@ -54,6 +54,8 @@ impl<M: Store, D: Store<Cell = M::Cell>, W: WaitingRule> Engine<M, D, W> {
     // The two stores and the rule, back from under the book.
     pub fn close(self) -> (M, D, W)
         ensures stores_and_rule { result ≡ (self.main, self.draft, self.rule) }
+        ensures main_row { M.Store.row result.0 ≡ self.book.main }
+        ensures draft_row { D.Store.row result.1 ≡ self.book.draft }
     {
         let Engine {
             main,

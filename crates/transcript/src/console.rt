@@ -1,4 +1,5 @@
 ghost use Rattle.std.specs.Prelude.{◌≡◌, [], ◌∷◌, OnErr, OnOk};
+ghost use Rattle.engine.specs.Contents.{RowsOfStores};
 ghost use Rattle.transcript.specs.Consoles.{BeginsTranscript, CompletesTranscript, ConsoleRunsOn, EndsInput, GoesOnBy, TakesPiece, TellsFront, taken_of};
 
 use crate::answering::answer_line;
@@ -57,10 +58,13 @@ impl<M: Store<Cell = i32>, D: Store<Cell = i32>, W: WaitingRule> Console<M, D, W
         ensures no_line_begun { OnOk result (self.new.front.items ≡ []) }
         ensures nothing_taken_on_error { OnErr result (TakesPiece W.WaitingRule.may self.old [] out.old.items self.new out.new.items) }
         ensures rule_kept { self.new.book.rule ≡ self.old.book.rule }
+        ensures rows_of_stores_before { RowsOfStores M.Store.row D.Store.row self.old.book }
+        ensures rows_of_stores { RowsOfStores M.Store.row D.Store.row self.new.book }
         ensures serializable_without_deadlock { ConsoleRunsOn W.WaitingRule.may self.old self.new }
     {
         answer_line(&mut self.book, self.front.as_slice(), out)?;
-        self.front.clear();
+        // A new one, since `clear` writes over each byte by a call.
+        self.front = ArrayVec::new();
         Ok(())
     }
 
@@ -70,6 +74,7 @@ impl<M: Store<Cell = i32>, D: Store<Cell = i32>, W: WaitingRule> Console<M, D, W
         ensures taken { OnOk result (TakesPiece W.WaitingRule.may self.old (byte ∷ []) out.old.items self.new out.new.items) }
         ensures nothing_taken_on_error { OnErr result (TakesPiece W.WaitingRule.may self.old [] out.old.items self.new out.new.items) }
         ensures rule_kept { self.new.book.rule ≡ self.old.book.rule }
+        ensures rows_kept { RowsOfStores M.Store.row D.Store.row self.old.book → RowsOfStores M.Store.row D.Store.row self.new.book }
         ensures serializable_without_deadlock { ConsoleRunsOn W.WaitingRule.may self.old self.new }
     {
         if byte == b'\n' {
@@ -86,8 +91,12 @@ impl<M: Store<Cell = i32>, D: Store<Cell = i32>, W: WaitingRule> Console<M, D, W
         ensures taken { TakesPiece W.WaitingRule.may self.old (taken_of piece.now result) out.old.items self.new out.new.items }
         ensures transcript_so_far { GoesOnBy W.WaitingRule.may self.old (taken_of piece.now result) out.old.items self.new out.new.items }
         ensures rule_kept { self.new.book.rule ≡ self.old.book.rule }
+        ensures rows_of_stores_before { RowsOfStores M.Store.row D.Store.row self.old.book }
+        ensures rows_of_stores { RowsOfStores M.Store.row D.Store.row self.new.book }
         ensures serializable_without_deadlock { ConsoleRunsOn W.WaitingRule.may self.old self.new }
     {
+        // `len` says how the rows stand, for a piece that ends no line.
+        let _ = self.book.len();
         for (i, byte) in piece.iter().enumerate() {
             self.take_byte(*byte, out)
                 .map_err(|_| NoMemory { taken: i })?;
@@ -104,8 +113,11 @@ impl<M: Store<Cell = i32>, D: Store<Cell = i32>, W: WaitingRule> Console<M, D, W
         ensures nothing_taken_on_error { OnErr result (TakesPiece W.WaitingRule.may self.old [] out.old.items self.new out.new.items) }
         ensures transcript_so_far_on_error { OnErr result (GoesOnBy W.WaitingRule.may self.old [] out.old.items self.new out.new.items) }
         ensures rule_kept { self.new.book.rule ≡ self.old.book.rule }
+        ensures rows_of_stores_before { RowsOfStores M.Store.row D.Store.row self.old.book }
+        ensures rows_of_stores { RowsOfStores M.Store.row D.Store.row self.new.book }
         ensures serializable_without_deadlock { ConsoleRunsOn W.WaitingRule.may self.old self.new }
     {
+        let _ = self.book.len();
         if self.front.is_empty() {
             return Ok(());
         }

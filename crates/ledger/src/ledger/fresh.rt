@@ -3,6 +3,7 @@ ghost use Rattle.ledger.specs.View.{state_of};
 ghost use Rattle.schedule.specs.Cells.{is_writer, record_of};
 ghost use Rattle.schedule.specs.Counting.{fresh_counters};
 ghost use Rattle.schedule.specs.States.{fresh_state};
+ghost use Rattle.soundness.specs.Soundness.{StateSound};
 
 use super::{Ledger, Tables};
 use cells::CellTable;
@@ -41,6 +42,7 @@ impl Ledger {
     // The number of cells.
     pub fn len(&self) -> usize
         ensures cell_count { result ≡ length self.now.cells }
+        ensures sound { StateSound self.now }
     {
         self.tables.cells.len()
     }
