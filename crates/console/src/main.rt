@@ -76,10 +76,8 @@ fn main(rt: HostRuntime) -> io::Result<()> {
     let main = Window::new(Bytes::new(&mut main_bytes), 0, CELLS);
     let draft = Window::new(Bytes::new(&mut draft_bytes), 0, CELLS);
     let book = Book::open(rt.alloc(), main, draft, Elder).map_err(AllocError::from)?;
-    run(
-        rt.alloc(),
-        rt.stdin(),
-        &mut rt.stdout(),
-        &mut Console::new(book),
-    )
+    let mut console = Console::new(book);
+    let done = run(rt.alloc(), rt.stdin(), &mut rt.stdout(), &mut console);
+    let (_, _, _) = console.into_book().close();
+    done
 }

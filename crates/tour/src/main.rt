@@ -196,7 +196,7 @@ impl<'a, 'b, P: Print> Guide<'a, 'b, P> {
     }
 }
 
-// Opens a book over two rows of bytes and carries out the task with it.
+// Opens a book over two rows of bytes, carries out the task with it, and closes it.
 fn with_a_book<P: Print + AllocGlobal, F: FnOnce(&mut Guide<'_, '_, P>) -> io::Result<()>>(
     rt: &P,
     heights: [i32; 4],
@@ -212,10 +212,12 @@ fn with_a_book<P: Print + AllocGlobal, F: FnOnce(&mut Guide<'_, '_, P>) -> io::R
     let Ok(mut book) = Book::open(rt.alloc(), main, draft, Elder) else {
         return println!(rt; "  no memory for the book");
     };
-    task(&mut Guide {
+    let done = task(&mut Guide {
         rt,
         book: &mut book,
-    })
+    });
+    let (_, _, _) = book.close();
+    done
 }
 
 fn main(rt: HostRuntime) -> io::Result<()> {
