@@ -1,6 +1,6 @@
 -- Bytes as numbers: how many there are, and that writing the four bytes of one replaces that number alone.
-use Rattle.std.proofs.Common.{◌≡◌, ℕ, zero, suc, ◌*◌, ◌/◌, ◌<◌, ◌≤◌, List, [], ◌∷◌, ◌++◌, length, take, drop, map, set, ℤ, sym, refl, ap, ◌∙◌, arith, length-append, length-take, length-drop, to_z-of_z, w32, SFits, to_z, of_z}
-use Rattle.std.proofs.lemmas.List.{drop-append-le, drop_at, length-map, map-set, take-append-drop, take-append-le, take_at}
+use Rattle.std.proofs.Common.{◌≡◌, ℕ, zero, suc, ◌+◌, ◌*◌, ◌/◌, ◌<◌, ◌≤◌, List, [], ◌∷◌, ◌++◌, length, slice_get, take, drop, map, set, ℤ, Some, sym, refl, ap, ◌∙◌, arith, length-append, length-take, length-drop, to_z-of_z, w32, SFits, to_z, of_z}
+use Rattle.std.proofs.lemmas.List.{drop-append-le, drop-drop, drop_at, length-map, map-set, take-append-drop, take-append-le, take_at}
 use Rattle.std.proofs.lemmas.Nat.{from_be_bytes-to_be_bytes_4}
 pub use Rattle.std.proofs.lemmas.Slice.{overwrites}
 use Rattle.std.specs.Simd.{first_chunks}
@@ -15,6 +15,16 @@ length-first_chunks (suc k) bytes = ap suc (length-first_chunks k (drop 4 bytes)
 
 pub length-numbers : (bytes : List ℕ) → length (numbers bytes) ≡ length bytes / 4
 length-numbers bytes = length-map _ number ∙ length-first_chunks (length bytes / 4) bytes
+
+-- number i of the first k is made by the four bytes from 4 * i on
+number-first_chunks : (k i : ℕ) (bytes : List ℕ) → i < k → slice_get (map number (first_chunks 4 k bytes)) i ≡ Some (number (take 4 (drop (4 * i) bytes)))
+number-first_chunks zero i bytes h = absurd (omega arith)
+number-first_chunks (suc k) zero bytes h = refl
+number-first_chunks (suc k) (suc i) bytes h = let e : 4 * suc i ≡ 4 + 4 * i = omega arith in rw (e, ← drop-drop) (number-first_chunks k i (drop 4 bytes) (omega arith))
+
+-- number i is made by the four bytes from 4 * i on
+pub numbers_at : (bytes : List ℕ) (i : ℕ) → i < length bytes / 4 → slice_get (numbers bytes) i ≡ Some (number (take 4 (drop (4 * i) bytes)))
+numbers_at bytes i = number-first_chunks (length bytes / 4) i bytes
 
 -- the four bytes of a number make that number
 number-bytes_of : (z : ℤ) → SFits w32 z → number (bytes_of z) ≡ z

@@ -1,5 +1,5 @@
 -- Where a text that says a value, a space and more goes wrong. Assumes nothing.
-use Rattle.std.proofs.Common.{◌≡◌, ℕ, suc, ◌+◌, ◌<◌, ◌≤◌, ◌⊎◌, List, [], ◌∷◌, ◌++◌, length, get_or, take, drop, sym, refl, ap, ◌∙◌, subst, inl, inr, ⊎_elim, append_assoc, arith, length-append, length-drop, take-append-drop, length-take-le, take_all}
+use Rattle.std.proofs.Common.{◌≡◌, ℕ, suc, ◌+◌, ◌<◌, ◌≤◌, ◌⊎◌, List, [], ◌∷◌, ◌++◌, length, get_or, take, drop, sym, refl, ap, ◌∙◌, subst, inl, inr, ⊎_elim, append_assoc, suc-add, arith, length-append, length-drop, take-append-drop, length-take-le, take_all}
 use lib.Seq.{take-append-add}
 use Rattle.numerals.specs.Places.{Fault, Longest}
 use Rattle.request_line.specs.Words.{ByteAt, FaultAt, NotParted, NoWord, Parted, Saying, Stands, Then}
@@ -66,6 +66,16 @@ module _ {K L : List ℕ → Type 0} (to : (xs : List ℕ) → K xs → L xs) (f
 
   pub same_fault : {xs : List ℕ} {n : ℕ} → Fault K xs n → Fault L xs n
   same_fault f = record { longest = same_longest f.longest; refused = λ t. f.refused (from _ t) }
+
+-- after a first byte
+module _ {L : List ℕ → Type 0} {x : ℕ} where
+  -- x and a text stop to begin one of L one byte past where the text alone stops to begin what may follow an x in L
+  pub cons_longest : {xs : List ℕ} {n : ℕ} → Longest (λ ys. L (x ∷ ys)) xs n → Longest L (x ∷ xs) (suc n)
+  cons_longest l = record { within = omega arith; begins = l.begins; stops = λ more b. l.stops (omega arith) (b.0, rw suc-add at b.1) }
+
+  -- the same where the text is none of those, and so x and the text are none of L
+  pub cons_fault : {xs : List ℕ} {n : ℕ} → Fault (λ ys. L (x ∷ ys)) xs n → Fault L (x ∷ xs) (suc n)
+  cons_fault f = record { longest = cons_longest f.longest; refused = f.refused }
 
 -- ---- the last word ----
 

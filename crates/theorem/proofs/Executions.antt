@@ -50,6 +50,12 @@ module _ {C : Type 0} where
   right_append (read_gave cell c ∷ xs) ys row r s = (r.0, right_append xs ys row r.1 s)
   right_append (wrote cell c ∷ xs) ys row r s = right_append xs ys (set row cell c) r s
 
+  -- of accesses whose reads are right, those at the front have right reads
+  pub right_front : (xs ys : List (Access C)) (row : List C) → ReadsRight row (xs ++ ys) → ReadsRight row xs
+  right_front [] ys row r = tt
+  right_front (read_gave cell c ∷ xs) ys row r = (r.0, right_front xs ys row r.1)
+  right_front (wrote cell c ∷ xs) ys row r = right_front xs ys (set row cell c) r
+
   pub right_back : (xs ys : List (Access C)) (row : List C) → ReadsRight row (xs ++ ys) → ReadsRight (row_after row xs) ys
   right_back [] ys row r = r
   right_back (read_gave cell c ∷ xs) ys row r = right_back xs ys row r.1
@@ -72,6 +78,12 @@ module _ {C : Type 0} where
   row_after_alike [] row row' q e = e
   row_after_alike (read_gave cell c ∷ xs) row row' q e = row_after_alike xs row row' q e
   row_after_alike (wrote cell c ∷ xs) row row' q e = row_after_alike xs (set row cell c) (set row' cell c) q (set_alike row row' cell c q e)
+
+  -- a cell that none of the accesses is of stays as it was
+  pub row_after_untouched : (xs : List (Access C)) (row : List C) (q : ℕ) → touches xs q ≡ false → slice_get (row_after row xs) q ≡ slice_get row q
+  row_after_untouched [] row q e = refl
+  row_after_untouched (read_gave cell c ∷ xs) row q e = grind (arith, row_after_untouched xs row q)
+  row_after_untouched (wrote cell c ∷ xs) row q e = grind (arith, nth_set_other, row_after_untouched xs (set row cell c) q)
 
   -- reads are as right on another row that is alike wherever the accesses touch
   pub right_alike : (xs : List (Access C)) (row row' : List C) → ((q : ℕ) → touches xs q ≡ true → slice_get row q ≡ slice_get row' q)
