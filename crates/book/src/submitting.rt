@@ -2,7 +2,7 @@
 #![tactic(auto, unfolding(engine::specs::Promises::KeepsPromises, engine::specs::Promises::KeepsPromisesThrough))]
 
 ghost use Rattle.std.specs.Prelude.{◌≡◌};
-ghost use Rattle.engine.specs.Contents.{RowsOfStores};
+ghost use Rattle.engine.specs.Contents.{BookSound};
 ghost use Rattle.theorem.specs.Calls.{KeepsSerializableThrough, after_all};
 ghost use Rattle.theorem.specs.Theorem.{KeepsSerializable, step};
 
@@ -16,8 +16,8 @@ impl<M: Store, D: Store<Cell = M::Cell>, W: WaitingRule> Book<M, D, W> {
     pub fn submit(&mut self, request: Request<M::Cell>) -> Event<M::Cell>
         ensures event_and_book_after { step (W.WaitingRule.may self.old.rule) self.old.book request ≡ (result, self.new.book) }
         ensures rule_kept { self.new.rule ≡ self.old.rule }
-        ensures rows_of_stores_before { RowsOfStores M.Store.row D.Store.row self.old }
-        ensures rows_of_stores { RowsOfStores M.Store.row D.Store.row self.new }
+        ensures sound_before { BookSound M.Store.row D.Store.row self.old }
+        ensures sound { BookSound M.Store.row D.Store.row self.new }
         ensures serializable_without_deadlock { KeepsSerializable (W.WaitingRule.may self.old.rule) result self.old.book self.new.book }
     {
         self.engine.submit(request)
@@ -27,8 +27,8 @@ impl<M: Store, D: Store<Cell = M::Cell>, W: WaitingRule> Book<M, D, W> {
     pub fn submit_all(&mut self, requests: &[Request<M::Cell>])
         ensures book_after { after_all (W.WaitingRule.may self.old.rule) self.old.book requests.now ≡ self.new.book }
         ensures rule_kept { self.new.rule ≡ self.old.rule }
-        ensures rows_of_stores_before { RowsOfStores M.Store.row D.Store.row self.old }
-        ensures rows_of_stores { RowsOfStores M.Store.row D.Store.row self.new }
+        ensures sound_before { BookSound M.Store.row D.Store.row self.old }
+        ensures sound { BookSound M.Store.row D.Store.row self.new }
         ensures serializable_without_deadlock { KeepsSerializableThrough (W.WaitingRule.may self.old.rule) requests.now self.old.book self.new.book }
     {
         self.engine.submit_all(requests);

@@ -2,12 +2,11 @@
 #![tactic(auto, using(crate::proofs::Promising::step_promises))]
 
 ghost use Rattle.std.specs.Prelude.{◌≡◌, ◌+◌, length, Ok};
-ghost use Rattle.engine.specs.Contents.{RowsOfStores};
+ghost use Rattle.engine.specs.Contents.{BookSound};
 ghost use Rattle.engine.specs.Promises.{KeepsPromises, TellsTrue};
 ghost use Rattle.schedule.specs.Books.{book_begin, book_end, book_give_up, book_group_size, book_read, book_write, carried, fetched};
 ghost use Rattle.schedule.specs.Reachable.{Sized};
 ghost use Rattle.schedule.specs.States.{report_of};
-ghost use Rattle.soundness.specs.Soundness.{StateSound};
 ghost use Rattle.store.specs.Rows.{cell_at};
 
 use crate::engine::Engine;
@@ -20,8 +19,7 @@ impl<M: Store, D: Store<Cell = M::Cell>, W: WaitingRule> Engine<M, D, W> {
     pub fn len(&self) -> usize
         ensures number_of_records { result ≡ length self.now.book.state.cells }
         ensures sized { Sized self.now.book }
-        ensures sound { StateSound self.now.book.state }
-        ensures rows_of_stores { RowsOfStores M.Store.row D.Store.row self.now }
+        ensures sound { BookSound M.Store.row D.Store.row self.now }
     {
         self.ledger.len()
     }
@@ -29,16 +27,18 @@ impl<M: Store, D: Store<Cell = M::Cell>, W: WaitingRule> Engine<M, D, W> {
     // A cell of the main store, as it lies there.
     pub fn main_cell(&self, cell: usize) -> Result<M::Cell, Outside>
         ensures cell_of_main_row { result ≡ cell_at self.now.book.main cell }
-        ensures rows_of_stores { RowsOfStores M.Store.row D.Store.row self.now }
+        ensures sound { BookSound M.Store.row D.Store.row self.now }
     {
+        // `len` says that the book is sound, where nothing is asked of the ledger.
+        let _ = self.len();
         self.main.get(cell)
     }
 
     pub fn begin(&mut self, class: u32) -> Result<(u32, u32, u32), Refusal>
         ensures answer_and_book_after { book_begin self.old.book class ≡ (result, self.new.book) }
         ensures rule_kept { self.new.rule ≡ self.old.rule }
-        ensures rows_of_stores_before { RowsOfStores M.Store.row D.Store.row self.old }
-        ensures rows_of_stores { RowsOfStores M.Store.row D.Store.row self.new }
+        ensures sound_before { BookSound M.Store.row D.Store.row self.old }
+        ensures sound { BookSound M.Store.row D.Store.row self.new }
         ensures promises_kept { KeepsPromises (W.WaitingRule.may self.old.rule) (Event.Begin class result) self.old.book self.new.book }
     {
         self.ledger.begin(class)
@@ -47,8 +47,8 @@ impl<M: Store, D: Store<Cell = M::Cell>, W: WaitingRule> Engine<M, D, W> {
     pub fn read(&mut self, ticket: u32, cell: u32) -> Reply<M::Cell>
         ensures answer_and_book_after { book_read (W.WaitingRule.may self.old.rule) self.old.book ticket cell ≡ (result, self.new.book) }
         ensures rule_kept { self.new.rule ≡ self.old.rule }
-        ensures rows_of_stores_before { RowsOfStores M.Store.row D.Store.row self.old }
-        ensures rows_of_stores { RowsOfStores M.Store.row D.Store.row self.new }
+        ensures sound_before { BookSound M.Store.row D.Store.row self.old }
+        ensures sound { BookSound M.Store.row D.Store.row self.new }
         ensures promises_kept { KeepsPromises (W.WaitingRule.may self.old.rule) (Event.Read ticket cell result) self.old.book self.new.book }
     {
         let source = self.ledger.read(&self.rule, ticket, cell)?;
@@ -69,8 +69,8 @@ impl<M: Store, D: Store<Cell = M::Cell>, W: WaitingRule> Engine<M, D, W> {
     pub fn write(&mut self, ticket: u32, cell: u32, new: M::Cell) -> Reply<()>
         ensures answer_and_book_after { book_write (W.WaitingRule.may self.old.rule) self.old.book ticket cell new ≡ (result, self.new.book) }
         ensures rule_kept { self.new.rule ≡ self.old.rule }
-        ensures rows_of_stores_before { RowsOfStores M.Store.row D.Store.row self.old }
-        ensures rows_of_stores { RowsOfStores M.Store.row D.Store.row self.new }
+        ensures sound_before { BookSound M.Store.row D.Store.row self.old }
+        ensures sound { BookSound M.Store.row D.Store.row self.new }
         ensures promises_kept { KeepsPromises (W.WaitingRule.may self.old.rule) (Event.Write ticket cell new result) self.old.book self.new.book }
     {
         self.ledger.write(&self.rule, ticket, cell)?;
@@ -98,8 +98,8 @@ impl<M: Store, D: Store<Cell = M::Cell>, W: WaitingRule> Engine<M, D, W> {
     pub fn end(&mut self, ticket: u32) -> Result<(u32, u32), Refusal>
         ensures answer_and_book_after { book_end self.old.book ticket ≡ (result, self.new.book) }
         ensures rule_kept { self.new.rule ≡ self.old.rule }
-        ensures rows_of_stores_before { RowsOfStores M.Store.row D.Store.row self.old }
-        ensures rows_of_stores { RowsOfStores M.Store.row D.Store.row self.new }
+        ensures sound_before { BookSound M.Store.row D.Store.row self.old }
+        ensures sound { BookSound M.Store.row D.Store.row self.new }
         ensures promises_kept { KeepsPromises (W.WaitingRule.may self.old.rule) (Event.End ticket result) self.old.book self.new.book }
     {
         let ending = self.ledger.ending(ticket)?;
@@ -110,8 +110,8 @@ impl<M: Store, D: Store<Cell = M::Cell>, W: WaitingRule> Engine<M, D, W> {
     pub fn give_up(&mut self, ticket: u32) -> Result<(), Refusal>
         ensures answer_and_book_after { book_give_up self.old.book ticket ≡ (result, self.new.book) }
         ensures rule_kept { self.new.rule ≡ self.old.rule }
-        ensures rows_of_stores_before { RowsOfStores M.Store.row D.Store.row self.old }
-        ensures rows_of_stores { RowsOfStores M.Store.row D.Store.row self.new }
+        ensures sound_before { BookSound M.Store.row D.Store.row self.old }
+        ensures sound { BookSound M.Store.row D.Store.row self.new }
         ensures promises_kept { KeepsPromises (W.WaitingRule.may self.old.rule) (Event.GiveUp ticket result) self.old.book self.new.book }
     {
         self.ledger.give_up(ticket)
@@ -120,8 +120,8 @@ impl<M: Store, D: Store<Cell = M::Cell>, W: WaitingRule> Engine<M, D, W> {
     pub fn set_group_size(&mut self, size: u32) -> Result<u32, Refusal>
         ensures answer_and_book_after { book_group_size self.old.book size ≡ (result, self.new.book) }
         ensures rule_kept { self.new.rule ≡ self.old.rule }
-        ensures rows_of_stores_before { RowsOfStores M.Store.row D.Store.row self.old }
-        ensures rows_of_stores { RowsOfStores M.Store.row D.Store.row self.new }
+        ensures sound_before { BookSound M.Store.row D.Store.row self.old }
+        ensures sound { BookSound M.Store.row D.Store.row self.new }
         ensures promises_kept { KeepsPromises (W.WaitingRule.may self.old.rule) (Event.GroupSize size result) self.old.book self.new.book }
     {
         self.ledger.set_group_size(size)
@@ -130,7 +130,7 @@ impl<M: Store, D: Store<Cell = M::Cell>, W: WaitingRule> Engine<M, D, W> {
     #[tactic(auto, using(crate::proofs::Promising::report_promises))]
     pub fn report(&self) -> Report
         ensures figures { result ≡ report_of self.now.book.state }
-        ensures rows_of_stores { RowsOfStores M.Store.row D.Store.row self.now }
+        ensures sound { BookSound M.Store.row D.Store.row self.now }
         ensures begun_is_the_sum { result.begun ≡ result.ended + result.given_up + result.rejected + result.«open» }
         ensures promises_kept { TellsTrue (W.WaitingRule.may self.now.rule) self.now.book result }
     {

@@ -1,5 +1,5 @@
 ghost use Rattle.std.specs.Prelude.{◌≡◌};
-ghost use Rattle.engine.specs.Contents.{RowsOfStores};
+ghost use Rattle.engine.specs.Contents.{BookSound};
 ghost use Rattle.engine.specs.Promises.{KeepsPromises, KeepsPromisesThrough};
 ghost use Rattle.theorem.specs.Calls.{after_all};
 ghost use Rattle.theorem.specs.Theorem.{step};
@@ -14,8 +14,8 @@ impl<M: Store, D: Store<Cell = M::Cell>, W: WaitingRule> Engine<M, D, W> {
     pub fn submit(&mut self, request: Request<M::Cell>) -> Event<M::Cell>
         ensures event_and_book_after { step (W.WaitingRule.may self.old.rule) self.old.book request ≡ (result, self.new.book) }
         ensures rule_kept { self.new.rule ≡ self.old.rule }
-        ensures rows_of_stores_before { RowsOfStores M.Store.row D.Store.row self.old }
-        ensures rows_of_stores { RowsOfStores M.Store.row D.Store.row self.new }
+        ensures sound_before { BookSound M.Store.row D.Store.row self.old }
+        ensures sound { BookSound M.Store.row D.Store.row self.new }
         ensures promises_kept { KeepsPromises (W.WaitingRule.may self.old.rule) result self.old.book self.new.book }
     {
         match request {
@@ -38,11 +38,11 @@ impl<M: Store, D: Store<Cell = M::Cell>, W: WaitingRule> Engine<M, D, W> {
     pub fn submit_all(&mut self, requests: &[Request<M::Cell>])
         ensures book_after { after_all (W.WaitingRule.may self.old.rule) self.old.book requests.now ≡ self.new.book }
         ensures rule_kept { self.new.rule ≡ self.old.rule }
-        ensures rows_of_stores_before { RowsOfStores M.Store.row D.Store.row self.old }
-        ensures rows_of_stores { RowsOfStores M.Store.row D.Store.row self.new }
+        ensures sound_before { BookSound M.Store.row D.Store.row self.old }
+        ensures sound { BookSound M.Store.row D.Store.row self.new }
         ensures promises_kept { KeepsPromisesThrough (W.WaitingRule.may self.old.rule) requests.now self.old.book self.new.book }
     {
-        // `len` says how the rows stand, for a list that is empty.
+        // `len` says that the book is sound, for a list that is empty.
         let _ = self.len();
         for request in requests {
             let _ = self.submit(*request);

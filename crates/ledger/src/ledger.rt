@@ -4,7 +4,7 @@ ghost use Rattle.schedule.specs.Counting.{left};
 ghost use Rattle.schedule.specs.Jobs.{SeatedIn, find, holds};
 ghost use Rattle.schedule.specs.States.{closed, waiting};
 ghost use Rattle.schedule.specs.Steps.{hindered, seated};
-ghost use Rattle.soundness.specs.Soundness.{CellSound, group_in};
+ghost use Rattle.soundness.specs.Soundness.{CellSound, StateSound, group_in};
 
 mod admission;
 mod beginning;
@@ -69,13 +69,22 @@ impl Ledger {
     ghost use Rattle.ledger.specs.View.{state_of};
     ghost use Rattle.soundness.specs.Soundness.{StateSound};
 
-    // What the ledger holds, taken out of it: one of no rows and no cells is left, until what was taken is written back whole.
+    // What the ledger holds, taken out of it: one of no rows and no cells is left, until what was taken is given back.
     fn take(&mut self) -> Tables
         ensures taken { state_of result ≡ self.old }
         ensures sound { StateSound (state_of result) }
     {
         let none = Tables::none(self.tables.jobs.allocator());
         std::mem::replace(&mut self.tables, none)
+    }
+
+    // Tables that agree with one another are given back, whole.
+    fn give_back(&mut self, tables: Tables)
+        requires sound_tables { StateSound (state_of tables) }
+        ensures written { self.new ≡ state_of tables }
+        ensures sound { StateSound self.new }
+    {
+        *self = Ledger { tables };
     }
 }
 
@@ -85,6 +94,7 @@ impl Ledger {
     fn seated(&self, ticket: u32) -> Result<Seated, Refusal>
         ensures seated { result ≡ seated self.now.jobs ticket }
         ensures seated_in { IfOk result (λ p. SeatedIn self.now.jobs ticket p) }
+        ensures sound { StateSound self.now }
     {
         let row = self.tables.jobs.row_of(ticket).ok_or(Refusal::NoOpenJob)?;
         let job = self.tables.jobs.job_in(row).ok_or(Refusal::NoOpenJob)?;
@@ -94,22 +104,24 @@ impl Ledger {
     // The job in `row` waits so, or not at all.
     fn set_wait(&mut self, row: usize, wait: Option<Wait>)
         ensures state_after { self.new ≡ waiting self.old row wait }
+        ensures sound { StateSound self.new }
     {
         let mut tables = self.take();
         tables.jobs.set_wait(row, wait);
-        *self = Ledger { tables };
+        self.give_back(tables);
     }
 
     // The job in `row`, whose ticket this is, closes, and what it wrote is dropped.
     fn close(&mut self, row: usize, ticket: u32, how: Closing)
         requires in_row { find (holds ticket) self.old.jobs ≡ Some row }
         ensures state_after { self.new ≡ closed self.old row ticket how }
+        ensures sound { StateSound self.new }
     {
         let mut tables = self.take();
         tables.jobs.close(row, ticket);
         tables.cells.release(row);
         tables.counters = left(tables.counters, how);
-        *self = Ledger { tables };
+        self.give_back(tables);
     }
 
     // The job's read or write of the cell, with what the rules go by.
@@ -145,6 +157,7 @@ impl Ledger {
     ) -> NotGranted
         requires seated_in { SeatedIn self.old.jobs ticket seated }
         ensures answer_and_state_after { hindered self.old seated.row ticket kind cell obstacle ≡ (result, self.new) }
+        ensures sound { StateSound self.new }
     {
         match obstacle {
             Obstacle::Wait(blocker) => {

@@ -1,5 +1,6 @@
 -- What a console does with a piece of its input, and at the end of its input. `may` tells what a waiting rule allows.
-use Rattle.std.specs.Prelude.{ℕ, List, [], take, ℤ, Ok, Err, Result}
+use Rattle.std.specs.Prelude.{ℕ, ◌≤◌, List, [], length, take, ℤ, Ok, Err, Result}
+use Rattle.engine.specs.Contents.{BookSound}
 use Rattle.schedule.specs.Books.{Book}
 use Rattle.schedule.specs.Verdicts.{May}
 use Rattle.transcript.specs.Answering.{AnswersLine, RunsOn}
@@ -11,6 +12,10 @@ use Rattle.transcript.specs.Lines.{Answering, Completes, Finished, GoesOn, SoFar
 abbrev pub taken_of : List ℕ → Result (Unit {0}) NoMemory → List ℕ
 taken_of piece (Ok u) = piece
 taken_of piece (Err short) = take short.taken piece
+
+-- the console's book is sound, and of the line that goes on it keeps at most 36 bytes
+abbrev pub ConsoleSound : {M D W : Type 0} → (M → List ℤ) → (D → List ℤ) → Console M D W → Type 0
+ConsoleSound main_row draft_row c = BookSound main_row draft_row c.book × (length c.front.items ≤ 36)
 
 module _ {M D W : Type 0} (may : W → May) where
   -- how its book answers lines

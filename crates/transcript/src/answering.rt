@@ -1,5 +1,5 @@
 ghost use Rattle.std.specs.Prelude.{◌≡◌, OnErr, OnOk};
-ghost use Rattle.engine.specs.Contents.{RowsOfStores};
+ghost use Rattle.engine.specs.Contents.{BookSound};
 ghost use Rattle.transcript.specs.Answering.{AnswersLine, AnswersSo, KeepsSerializableByLine, RunsOn};
 ghost use Rattle.transcript.specs.Lines.{Told};
 
@@ -22,12 +22,12 @@ pub fn answer_line<M: Store<Cell = i32>, D: Store<Cell = i32>, W: WaitingRule>(
     ensures nothing_told_on_error { OnErr result (out.new.items ≡ out.old.items) }
     ensures book_kept_on_error { OnErr result (book.new.book ≡ book.old.book) }
     ensures rule_kept { book.new.rule ≡ book.old.rule }
-    ensures rows_of_stores_before { RowsOfStores M.Store.row D.Store.row book.old }
-    ensures rows_of_stores { RowsOfStores M.Store.row D.Store.row book.new }
+    ensures sound_before { BookSound M.Store.row D.Store.row book.old }
+    ensures sound { BookSound M.Store.row D.Store.row book.new }
     ensures serializable_without_deadlock { OnOk result (KeepsSerializableByLine (W.WaitingRule.may book.old.rule) line.now book.old.book book.new.book) }
     ensures run_goes_on { RunsOn (W.WaitingRule.may book.old.rule) book.old.book book.new.book }
 {
-    // `len` says how the rows stand, where nothing is asked of the book.
+    // `len` says that the book is sound, where nothing else is asked of it.
     let _ = book.len();
     out.reserve(64)?;
     let answer = carry_out(book, line);
@@ -42,8 +42,8 @@ fn carry_out<M: Store<Cell = i32>, D: Store<Cell = i32>, W: WaitingRule>(
 ) -> Answer
     ensures answer_and_book_after { AnswersSo (W.WaitingRule.may book.old.rule) line.now book.old.book result book.new.book }
     ensures rule_kept { book.new.rule ≡ book.old.rule }
-    ensures rows_of_stores_before { RowsOfStores M.Store.row D.Store.row book.old }
-    ensures rows_of_stores { RowsOfStores M.Store.row D.Store.row book.new }
+    ensures sound_before { BookSound M.Store.row D.Store.row book.old }
+    ensures sound { BookSound M.Store.row D.Store.row book.new }
     ensures serializable_without_deadlock { KeepsSerializableByLine (W.WaitingRule.may book.old.rule) line.now book.old.book book.new.book }
     ensures run_goes_on { RunsOn (W.WaitingRule.may book.old.rule) book.old.book book.new.book }
 {

@@ -1,6 +1,6 @@
-ghost use Rattle.std.specs.Prelude.{◌≡◌, [], ◌∷◌, OnErr, OnOk};
-ghost use Rattle.engine.specs.Contents.{RowsOfStores};
-ghost use Rattle.transcript.specs.Consoles.{BeginsTranscript, CompletesTranscript, ConsoleRunsOn, EndsInput, GoesOnBy, TakesPiece, TellsFront, taken_of};
+ghost use Rattle.std.specs.Prelude.{◌≡◌, [], ◌∷◌, OnErr, OnOk, length};
+ghost use Rattle.schedule.specs.Reachable.{Sized};
+ghost use Rattle.transcript.specs.Consoles.{BeginsTranscript, CompletesTranscript, ConsoleRunsOn, ConsoleSound, EndsInput, GoesOnBy, TakesPiece, TellsFront, taken_of};
 
 use crate::answering::answer_line;
 use arrayvec::ArrayVec;
@@ -34,9 +34,12 @@ impl<M: Store<Cell = i32>, D: Store<Cell = i32>, W: WaitingRule> Console<M, D, W
     // A console over a book, before any input.
     pub fn new(book: Book<M, D, W>) -> Console<M, D, W>
         ensures over_the_book { result.book ≡ book }
+        ensures sound { ConsoleSound M.Store.row D.Store.row result }
         ensures no_line_begun { result.front.items ≡ [] }
         ensures transcript_begun { BeginsTranscript W.WaitingRule.may result }
     {
+        // `len` says that the book is sound.
+        let _ = book.len();
         Console {
             book,
             front: ArrayVec::new(),
@@ -46,9 +49,23 @@ impl<M: Store<Cell = i32>, D: Store<Cell = i32>, W: WaitingRule> Console<M, D, W
     // The book, back from under the console.
     pub fn into_book(self) -> Book<M, D, W>
         ensures its_book { result ≡ self.book }
+        ensures sound_before { ConsoleSound M.Store.row D.Store.row self }
     {
+        // `len` says that the console is sound.
+        let _ = self.len();
         let Console { book, front: _ } = self;
         book
+    }
+
+    // How many cells its book has.
+    pub fn len(&self) -> usize
+        ensures number_of_records { result ≡ length self.now.book.book.state.cells }
+        ensures sized { Sized self.now.book.book }
+        ensures sound { ConsoleSound M.Store.row D.Store.row self.now }
+    {
+        // The front says that it has at most 36 bytes.
+        let _ = self.front.len();
+        self.book.len()
     }
 
     // Answers the line that has come.
@@ -58,8 +75,8 @@ impl<M: Store<Cell = i32>, D: Store<Cell = i32>, W: WaitingRule> Console<M, D, W
         ensures no_line_begun { OnOk result (self.new.front.items ≡ []) }
         ensures nothing_taken_on_error { OnErr result (TakesPiece W.WaitingRule.may self.old [] out.old.items self.new out.new.items) }
         ensures rule_kept { self.new.book.rule ≡ self.old.book.rule }
-        ensures rows_of_stores_before { RowsOfStores M.Store.row D.Store.row self.old.book }
-        ensures rows_of_stores { RowsOfStores M.Store.row D.Store.row self.new.book }
+        ensures sound_before { ConsoleSound M.Store.row D.Store.row self.old }
+        ensures sound { ConsoleSound M.Store.row D.Store.row self.new }
         ensures serializable_without_deadlock { ConsoleRunsOn W.WaitingRule.may self.old self.new }
     {
         answer_line(&mut self.book, self.front.as_slice(), out)?;
@@ -74,7 +91,7 @@ impl<M: Store<Cell = i32>, D: Store<Cell = i32>, W: WaitingRule> Console<M, D, W
         ensures taken { OnOk result (TakesPiece W.WaitingRule.may self.old (byte ∷ []) out.old.items self.new out.new.items) }
         ensures nothing_taken_on_error { OnErr result (TakesPiece W.WaitingRule.may self.old [] out.old.items self.new out.new.items) }
         ensures rule_kept { self.new.book.rule ≡ self.old.book.rule }
-        ensures rows_kept { RowsOfStores M.Store.row D.Store.row self.old.book → RowsOfStores M.Store.row D.Store.row self.new.book }
+        ensures sound_kept { ConsoleSound M.Store.row D.Store.row self.old → ConsoleSound M.Store.row D.Store.row self.new }
         ensures serializable_without_deadlock { ConsoleRunsOn W.WaitingRule.may self.old self.new }
     {
         if byte == b'\n' {
@@ -91,12 +108,12 @@ impl<M: Store<Cell = i32>, D: Store<Cell = i32>, W: WaitingRule> Console<M, D, W
         ensures taken { TakesPiece W.WaitingRule.may self.old (taken_of piece.now result) out.old.items self.new out.new.items }
         ensures transcript_so_far { GoesOnBy W.WaitingRule.may self.old (taken_of piece.now result) out.old.items self.new out.new.items }
         ensures rule_kept { self.new.book.rule ≡ self.old.book.rule }
-        ensures rows_of_stores_before { RowsOfStores M.Store.row D.Store.row self.old.book }
-        ensures rows_of_stores { RowsOfStores M.Store.row D.Store.row self.new.book }
+        ensures sound_before { ConsoleSound M.Store.row D.Store.row self.old }
+        ensures sound { ConsoleSound M.Store.row D.Store.row self.new }
         ensures serializable_without_deadlock { ConsoleRunsOn W.WaitingRule.may self.old self.new }
     {
-        // `len` says how the rows stand, for a piece that ends no line.
-        let _ = self.book.len();
+        // `len` says that the console is sound, for a piece that ends no line.
+        let _ = self.len();
         for (i, byte) in piece.iter().enumerate() {
             self.take_byte(*byte, out)
                 .map_err(|_| NoMemory { taken: i })?;
@@ -113,11 +130,11 @@ impl<M: Store<Cell = i32>, D: Store<Cell = i32>, W: WaitingRule> Console<M, D, W
         ensures nothing_taken_on_error { OnErr result (TakesPiece W.WaitingRule.may self.old [] out.old.items self.new out.new.items) }
         ensures transcript_so_far_on_error { OnErr result (GoesOnBy W.WaitingRule.may self.old [] out.old.items self.new out.new.items) }
         ensures rule_kept { self.new.book.rule ≡ self.old.book.rule }
-        ensures rows_of_stores_before { RowsOfStores M.Store.row D.Store.row self.old.book }
-        ensures rows_of_stores { RowsOfStores M.Store.row D.Store.row self.new.book }
+        ensures sound_before { ConsoleSound M.Store.row D.Store.row self.old }
+        ensures sound { ConsoleSound M.Store.row D.Store.row self.new }
         ensures serializable_without_deadlock { ConsoleRunsOn W.WaitingRule.may self.old self.new }
     {
-        let _ = self.book.len();
+        let _ = self.len();
         if self.front.is_empty() {
             return Ok(());
         }

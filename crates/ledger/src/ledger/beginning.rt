@@ -3,6 +3,7 @@ ghost use Rattle.schedule.specs.Counting.{joined};
 ghost use Rattle.schedule.specs.Jobs.{find, vacant};
 ghost use Rattle.schedule.specs.States.{beginning};
 ghost use Rattle.schedule.specs.Steps.{begin_step};
+ghost use Rattle.soundness.specs.Soundness.{StateSound};
 
 use super::Ledger;
 use schedule::{Counters, Job, Refusal};
@@ -45,18 +46,23 @@ impl Ledger {
         requires tickets_left { self.old.counters.begun < 1000000 }
         requires row_free { find vacant self.old.jobs ≡ Some row }
         ensures state_after { self.new ≡ beginning self.old class (joined self.old.counters) row }
+        ensures sound { StateSound self.new }
     {
         let mut tables = self.take();
         tables.counters = joined(tables.counters);
         tables.jobs.seat(row, new_job(class, tables.counters));
-        *self = Ledger { tables };
+        self.give_back(tables);
     }
 
     // A job begins: its ticket, its group and its place in the group.
     #[tactic(auto, using(roster::proofs::Finds::find_is_position))]
     pub fn begin(&mut self, class: u32) -> Result<(u32, u32, u32), Refusal>
         ensures answer_and_state_after { begin_step self.old class ≡ (result, self.new) }
+        ensures sound_before { StateSound self.old }
+        ensures sound { StateSound self.new }
     {
+        // `len` says that the ledger is sound, where nothing else is asked of it.
+        let _ = self.len();
         let class = Class::try_from(class)?;
         if self.tables.counters.begun >= 1_000_000 {
             return Err(Refusal::TicketsSpent);

@@ -1,5 +1,6 @@
 ghost use Rattle.std.specs.Prelude.{◌≡◌, ◌+◌};
 ghost use Rattle.schedule.specs.States.{report_of};
+ghost use Rattle.soundness.specs.Soundness.{StateSound};
 
 use super::Ledger;
 use schedule::Report;
@@ -9,6 +10,7 @@ impl Ledger {
     pub fn report(&self) -> Report
         ensures counts { result ≡ report_of self.now }
         ensures each_job_counted_once { result.begun ≡ result.ended + result.given_up + result.rejected + result.«open» }
+        ensures sound { StateSound self.now }
     {
         let n = self.tables.counters;
         Report {

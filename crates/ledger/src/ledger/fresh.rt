@@ -28,6 +28,7 @@ impl Ledger {
     // A ledger of this many cells, in which no job has begun.
     pub fn fresh(alloc: Global, size: usize) -> Result<Ledger, AllocError>
         ensures fresh { IfOk result (λ ledger. ledger ≡ fresh_state size) }
+        ensures sound { IfOk result (λ ledger. StateSound ledger) }
     {
         let jobs = JobRows::new(alloc)?;
         let cells = CellTable::new(alloc, size)?;
@@ -50,6 +51,7 @@ impl Ledger {
     // Whether the writer of the cell is the job in this row.
     pub fn is_written_by(&self, cell: usize, row: usize) -> bool
         ensures writer_is_row { result ≡ is_writer (record_of self.now.cells cell).writer row }
+        ensures sound { StateSound self.now }
     {
         self.tables.cells.is_written_by(cell, row)
     }

@@ -5,6 +5,10 @@ pub left-tables-requires : goal.left-tables-requires
 left-tables-requires c =
     assumption (room_to_close c.take-tables.ensures.sound c.args.row c.args.ticket (rw (← c.take-tables.ensures.taken) at c.requires.in_row))
 
-pub invariant_of-drop : goal.invariant_of-drop
-invariant_of-drop c =
-    sound_closed _ _ c.take-tables.ensures.sound c.args.row c.args.ticket (rw (← c.take-tables.ensures.taken) at c.requires.in_row) c.args.how (cc)
+pub give_back-requires : goal.give_back-requires
+give_back-requires c =
+    record {
+      sound_tables =
+          sound_closed _ _ c.take-tables.ensures.sound c.args.row c.args.ticket
+          (rw (← c.take-tables.ensures.taken) at c.requires.in_row) c.args.how (cc);
+    }

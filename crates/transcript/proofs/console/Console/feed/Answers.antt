@@ -20,7 +20,7 @@ loop-i-init g c =
     record {
       taken = search rules;
       rule_kept = refl;
-      rows_of_stores = c.len.ensures.rows_of_stores;
+      sound = c.len.ensures.sound;
       run_goes_on = runs_still (g.W.WaitingRule.may rule) _ _ (g.met.W.WaitingRule.irreflexive rule) (g.met.W.WaitingRule.transitive rule) refl;
     }
 
@@ -36,7 +36,7 @@ loop-i-preserved g c =
           taken_one_more c.args.piece.now c.loop-i.i-counter (omega arith) (ap (λ (m : May). AnswersLine m) same) inv.taken
           (at_ok c.take_byte.result c.in_ok-map_err.ensures.variant byte.taken);
       rule_kept = byte.rule_kept ∙ inv.rule_kept;
-      rows_of_stores = byte.rows_kept inv.rows_of_stores;
+      sound = byte.sound_kept inv.sound;
       run_goes_on = runs_both _ _ _ same inv.run_goes_on byte.serializable_without_deadlock;
     }
 
@@ -58,8 +58,8 @@ returns-in_err-map_err g c =
       taken = rw (p.1, p.2, is) taken;
       transcript_so_far = rw (p.1, p.2, is) (goes_on taken);
       rule_kept = byte.rule_kept ∙ inv.rule_kept;
-      rows_of_stores_before = c.len.ensures.rows_of_stores;
-      rows_of_stores = byte.rows_kept inv.rows_of_stores;
+      sound_before = c.len.ensures.sound;
+      sound = byte.sound_kept inv.sound;
       serializable_without_deadlock = runs_both _ _ _ same inv.run_goes_on byte.serializable_without_deadlock;
     }
 
