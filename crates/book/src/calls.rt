@@ -33,7 +33,7 @@ impl<M: Store, D: Store<Cell = M::Cell>, W: WaitingRule> Book<M, D, W> {
         ensures main_kept { IfOk result (λ b. b.main ≡ main) }
         ensures draft_kept { IfOk result (λ b. b.draft ≡ draft) }
         ensures rule_kept { IfOk result (λ b. b.rule ≡ rule) }
-        ensures sound { IfOk result (λ b. BookSound M.Store.row D.Store.row b) }
+        ensures sound { IfOk result (BookSound M.Store.row D.Store.row) }
         ensures handed_back { IfErr result (λ u. u ≡ record { main = main; draft = draft; rule = rule }) }
         ensures starts_serializable { IfOk result (λ b. StartsSerializable (W.WaitingRule.may rule) (M.Store.row main) b.book) }
     {

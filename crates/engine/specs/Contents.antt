@@ -10,7 +10,6 @@ pub record Contents (M D W C : Type 0) : Type 0 where
   pub rule : W
   pub book : Book C
 
--- the book's two rows are those that its stores hold, and its jobs, the cells' records and the counters agree; `main_row`
--- and `draft_row` tell the row that a store holds
+-- the book's two rows are those that its stores hold, as `row_of_main` and `row_of_draft` tell them, and its state is sound
 abbrev pub BookSound : {M D W C : Type 0} → (M → List C) → (D → List C) → Contents M D W C → Type 0
-BookSound main_row draft_row c = (main_row c.main ≡ c.book.main) × (draft_row c.draft ≡ c.book.draft) × StateSound c.book.state
+BookSound row_of_main row_of_draft c = (row_of_main c.main ≡ c.book.main) × (row_of_draft c.draft ≡ c.book.draft) × StateSound c.book.state

@@ -37,7 +37,7 @@ impl<M: Store, D: Store<Cell = M::Cell>, W: WaitingRule> Engine<M, D, W> {
         ensures main_kept { IfOk result (λ e. e.main ≡ main) }
         ensures draft_kept { IfOk result (λ e. e.draft ≡ draft) }
         ensures rule_kept { IfOk result (λ e. e.rule ≡ rule) }
-        ensures sound { IfOk result (λ e. BookSound M.Store.row D.Store.row e) }
+        ensures sound { IfOk result (BookSound M.Store.row D.Store.row) }
         ensures handed_back { IfErr result (λ u. u ≡ record { main = main; draft = draft; rule = rule }) }
         ensures promises_kept { IfOk result (λ e. StartsPromises (W.WaitingRule.may rule) (M.Store.row main) e.book) }
     {
@@ -60,8 +60,6 @@ impl<M: Store, D: Store<Cell = M::Cell>, W: WaitingRule> Engine<M, D, W> {
         ensures draft_row { D.Store.row result.1 ≡ self.book.draft }
         ensures sound_before { BookSound M.Store.row D.Store.row self }
     {
-        // `len` says that the book is sound.
-        let _ = self.len();
         let Engine {
             main,
             draft,

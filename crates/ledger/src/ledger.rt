@@ -67,7 +67,6 @@ fn left(counters: Counters, how: Closing) -> Counters
 
 impl Ledger {
     ghost use Rattle.ledger.specs.View.{state_of};
-    ghost use Rattle.soundness.specs.Soundness.{StateSound};
 
     // What the ledger holds, taken out of it: one of no rows and no cells is left, until what was taken is given back.
     fn take(&mut self) -> Tables

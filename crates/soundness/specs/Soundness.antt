@@ -43,7 +43,7 @@ AllCounted rows n = n.begun ≡ n.ended + n.given_up + n.rejected + open_count r
 abbrev pub CountersSound : List (Option Job) → Counters → Type 0
 CountersSound rows n = CountsBounded n × GroupSizeBounded n × AllCounted rows n
 
--- at most 32 jobs are open, and the jobs, the cells' records and the counters agree with one another
+-- there are at most 32 rows of jobs, and the jobs, the cells' records and the counters agree with one another
 pub record StateSound (s : State) : Type 0 where
   pub few_rows : length s.jobs ≤ 32
   pub counters_sound : CountersSound s.jobs s.counters

@@ -15,7 +15,7 @@ taken_of piece (Err short) = take short.taken piece
 
 -- the console's book is sound, and of the line that goes on it keeps at most 36 bytes
 abbrev pub ConsoleSound : {M D W : Type 0} → (M → List ℤ) → (D → List ℤ) → Console M D W → Type 0
-ConsoleSound main_row draft_row c = BookSound main_row draft_row c.book × (length c.front.items ≤ 36)
+ConsoleSound row_of_main row_of_draft c = BookSound row_of_main row_of_draft c.book × (length c.front.items ≤ 36)
 
 module _ {M D W : Type 0} (may : W → May) where
   -- how its book answers lines

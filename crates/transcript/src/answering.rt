@@ -42,11 +42,11 @@ fn carry_out<M: Store<Cell = i32>, D: Store<Cell = i32>, W: WaitingRule>(
 ) -> Answer
     ensures answer_and_book_after { AnswersSo (W.WaitingRule.may book.old.rule) line.now book.old.book result book.new.book }
     ensures rule_kept { book.new.rule ≡ book.old.rule }
-    ensures sound_before { BookSound M.Store.row D.Store.row book.old }
     ensures sound { BookSound M.Store.row D.Store.row book.new }
     ensures serializable_without_deadlock { KeepsSerializableByLine (W.WaitingRule.may book.old.rule) line.now book.old.book book.new.book }
     ensures run_goes_on { RunsOn (W.WaitingRule.may book.old.rule) book.old.book book.new.book }
 {
+    // `len` says that the book is sound, for a line that is no request.
     let _ = book.len();
     match read_request(line) {
         Ok(request) => Answer::from(book.submit(request)),

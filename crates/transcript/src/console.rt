@@ -38,8 +38,6 @@ impl<M: Store<Cell = i32>, D: Store<Cell = i32>, W: WaitingRule> Console<M, D, W
         ensures no_line_begun { result.front.items ≡ [] }
         ensures transcript_begun { BeginsTranscript W.WaitingRule.may result }
     {
-        // `len` says that the book is sound.
-        let _ = book.len();
         Console {
             book,
             front: ArrayVec::new(),
@@ -51,14 +49,12 @@ impl<M: Store<Cell = i32>, D: Store<Cell = i32>, W: WaitingRule> Console<M, D, W
         ensures its_book { result ≡ self.book }
         ensures sound_before { ConsoleSound M.Store.row D.Store.row self }
     {
-        // `len` says that the console is sound.
-        let _ = self.len();
         let Console { book, front: _ } = self;
         book
     }
 
     // How many cells its book has.
-    pub fn len(&self) -> usize
+    pub fn book_len(&self) -> usize
         ensures number_of_records { result ≡ length self.now.book.book.state.cells }
         ensures sized { Sized self.now.book.book }
         ensures sound { ConsoleSound M.Store.row D.Store.row self.now }
@@ -75,7 +71,6 @@ impl<M: Store<Cell = i32>, D: Store<Cell = i32>, W: WaitingRule> Console<M, D, W
         ensures no_line_begun { OnOk result (self.new.front.items ≡ []) }
         ensures nothing_taken_on_error { OnErr result (TakesPiece W.WaitingRule.may self.old [] out.old.items self.new out.new.items) }
         ensures rule_kept { self.new.book.rule ≡ self.old.book.rule }
-        ensures sound_before { ConsoleSound M.Store.row D.Store.row self.old }
         ensures sound { ConsoleSound M.Store.row D.Store.row self.new }
         ensures serializable_without_deadlock { ConsoleRunsOn W.WaitingRule.may self.old self.new }
     {
@@ -85,7 +80,8 @@ impl<M: Store<Cell = i32>, D: Store<Cell = i32>, W: WaitingRule> Console<M, D, W
         Ok(())
     }
 
-    // One byte: byte 10 ends the line, which is answered; any other goes on with it.
+    // One byte: byte 10 ends the line, which is answered; any other goes on with it, and asks nothing of the book, so that this
+    // keeps the console sound and doesn't say that it was.
     #[tactic(auto, using(crate::proofs::Running::runs_still))]
     fn take_byte(&mut self, byte: u8, out: &mut Vec<u8>) -> Result<(), AllocError>
         ensures taken { OnOk result (TakesPiece W.WaitingRule.may self.old (byte ∷ []) out.old.items self.new out.new.items) }
@@ -112,8 +108,8 @@ impl<M: Store<Cell = i32>, D: Store<Cell = i32>, W: WaitingRule> Console<M, D, W
         ensures sound { ConsoleSound M.Store.row D.Store.row self.new }
         ensures serializable_without_deadlock { ConsoleRunsOn W.WaitingRule.may self.old self.new }
     {
-        // `len` says that the console is sound, for a piece that ends no line.
-        let _ = self.len();
+        // `book_len` says that the console is sound, for a piece that ends no line.
+        let _ = self.book_len();
         for (i, byte) in piece.iter().enumerate() {
             self.take_byte(*byte, out)
                 .map_err(|_| NoMemory { taken: i })?;
@@ -134,7 +130,8 @@ impl<M: Store<Cell = i32>, D: Store<Cell = i32>, W: WaitingRule> Console<M, D, W
         ensures sound { ConsoleSound M.Store.row D.Store.row self.new }
         ensures serializable_without_deadlock { ConsoleRunsOn W.WaitingRule.may self.old self.new }
     {
-        let _ = self.len();
+        // `book_len` says that the console is sound, where no line is left.
+        let _ = self.book_len();
         if self.front.is_empty() {
             return Ok(());
         }

@@ -28,7 +28,7 @@ impl Ledger {
     // A ledger of this many cells, in which no job has begun.
     pub fn fresh(alloc: Global, size: usize) -> Result<Ledger, AllocError>
         ensures fresh { IfOk result (λ ledger. ledger ≡ fresh_state size) }
-        ensures sound { IfOk result (λ ledger. StateSound ledger) }
+        ensures sound { IfOk result StateSound }
     {
         let jobs = JobRows::new(alloc)?;
         let cells = CellTable::new(alloc, size)?;

@@ -20,7 +20,7 @@ loop-i-init g c =
     record {
       taken = search rules;
       rule_kept = refl;
-      sound = c.len.ensures.sound;
+      sound = c.book_len.ensures.sound;
       run_goes_on = runs_still (g.W.WaitingRule.may rule) _ _ (g.met.W.WaitingRule.irreflexive rule) (g.met.W.WaitingRule.transitive rule) refl;
     }
 
@@ -58,7 +58,7 @@ returns-in_err-map_err g c =
       taken = rw (p.1, p.2, is) taken;
       transcript_so_far = rw (p.1, p.2, is) (goes_on taken);
       rule_kept = byte.rule_kept ∙ inv.rule_kept;
-      sound_before = c.len.ensures.sound;
+      sound_before = c.book_len.ensures.sound;
       sound = byte.sound_kept inv.sound;
       serializable_without_deadlock = runs_both _ _ _ same inv.run_goes_on byte.serializable_without_deadlock;
     }
